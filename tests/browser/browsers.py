@@ -55,9 +55,9 @@ NAMES = {
 # What Firefox's console got from pages as errors since it was asked last: exceptions, and failures of the network and of the
 # policy. Errors of the browser's own parts are left out.
 CONSOLE = """
-const told = Services.console.getMessageArray().filter(one => one instanceof Ci.nsIScriptError);
+const messages = Services.console.getMessageArray().filter(one => one instanceof Ci.nsIScriptError);
 Services.console.reset();
-return told.filter(one => !(one.flags & Ci.nsIScriptError.warningFlag) && !one.isFromChromeContext)
+return messages.filter(one => !(one.flags & Ci.nsIScriptError.warningFlag) && !one.isFromChromeContext)
   .map(one => ({ level: 'SEVERE', source: one.category, message: `${one.errorMessage} ${one.sourceName}`, timestamp: 0 }));
 """
 # How Firefox's output has what pages write to their consoles. The browser's own parts begin with a name and a colon, as
@@ -134,12 +134,12 @@ class Marionette(Peer):
     def console(self) -> list[dict[str, object]]:
         """What pages wrote to their consoles as errors and warnings since the last call, as chromedriver lists it."""
         self.result("Marionette:SetContext", value="chrome")
-        told: list[dict[str, object]] = self.result("WebDriver:ExecuteScript", script=CONSOLE, args=[])
+        messages: list[dict[str, object]] = self.result("WebDriver:ExecuteScript", script=CONSOLE, args=[])
         self.result("Marionette:SetContext", value="content")
         for kind, message in CALLS.findall(self.output.read()):
             level = "WARNING" if kind == "warn" else "SEVERE"
-            told.append({"level": level, "source": "console-api", "message": message, "timestamp": 0})
-        return told
+            messages.append({"level": level, "source": "console-api", "message": message, "timestamp": 0})
+        return messages
 
     def execute(self, command: str, parameters: dict[str, Any]) -> dict[str, object]:
         """Does a command for selenium, and gives its value."""
@@ -164,10 +164,10 @@ def firefox(downloads: Path) -> Iterator[Browser]:
             process = subprocess.Popen(command, stdin=DEVNULL, stdout=file, stderr=file, start_new_session=True)
         try:
             wait_until(lambda: port.exists() and port.read_text() or process.poll() is not None, START)
-            with output.open(errors="replace") as told:
+            with output.open(errors="replace") as log:
                 if not port.exists():
-                    raise OSError(f"Firefox doesn't listen: {told.read()}")
-                with Marionette(int(port.read_text()), told) as marionette:
+                    raise OSError(f"Firefox doesn't listen: {log.read()}")
+                with Marionette(int(port.read_text()), log) as marionette:
                     # A file that is typed into a field is at hand, since the browser runs here.
                     how: dict[str, Any] = {
                         "options": webdriver.FirefoxOptions(),

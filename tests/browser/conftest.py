@@ -15,9 +15,9 @@ from browser.teacher import Teacher
 def pytest_terminal_summary(terminalreporter: TerminalReporter) -> None:
     """Prints what tests measured, by the second."""
     reports = [*terminalreporter.getreports("passed"), *terminalreporter.getreports("failed")]
-    for name, told in (one for report in reports for one in report.user_properties):
+    for name, figures in (one for report in reports for one in report.user_properties):
         if name == "figures":
-            terminalreporter.write_line(f"a second: {told}")
+            terminalreporter.write_line(f"a second: {figures}")
 
 
 # Side by side, as by `-n 2 --dist loadgroup`, each browser has a worker of its own.

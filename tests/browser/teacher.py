@@ -84,8 +84,8 @@ class Teacher:
         """What the console got since the last call: errors, and the page's own warnings. Those with one of these texts are
         left out."""
         kinds = {("SEVERE", True), ("SEVERE", False), ("WARNING", True)}
-        told = self.driver.get_log("browser")
-        errors = [one["message"] for one in told if (one["level"], one["source"] == "console-api") in kinds]
+        messages = self.driver.get_log("browser")
+        errors = [one["message"] for one in messages if (one["level"], one["source"] == "console-api") in kinds]
         return [error for error in errors if not any(text in error for text in pardoned)]
 
     def count(self) -> int:

@@ -92,6 +92,6 @@ def test_frames_are_many_enough(own: Teacher, record_property: Callable[[str, st
             break
     most = frames_of_page(own, FAST)
     slow, fast = (f"{found[0]:.1f} frames, {found[1]:.0f} steps" for found in ((frames, steps), most))
-    told = f"a step a frame: {slow}; the most steps: {fast}; a client: {before:.1f} and {after:.1f} frames"
-    record_property("figures", f"{own.browser}, {entry}, {told}")
+    figures = f"a step a frame: {slow}; the most steps: {fast}; a client: {before:.1f} and {after:.1f} frames"
+    record_property("figures", f"{own.browser}, {entry}, {figures}")
     assert frames >= wanted

@@ -113,9 +113,9 @@ def test_the_page_goes_on_at_another_host(teacher: Teacher, host: Hosts, page: P
     one.kill()
     teacher.wait_until("window.states.some(([state]) => state === 'lost')")
     state_is(teacher, "ready", "of host 2")
-    told = [(state, when) for state, when in teacher.value("window.states") if state in ("lost", "ready")]
-    assert [state for state, _ in told] == ["lost", "ready"]
-    assert told[1][1] - told[0][1] < 1000 * (ELSEWHERE + opened)
+    states = [(state, when) for state, when in teacher.value("window.states") if state in ("lost", "ready")]
+    assert [state for state, _ in states] == ["lost", "ready"]
+    assert states[1][1] - states[0][1] < 1000 * (ELSEWHERE + opened)
     run_on(teacher, 30)
     count = teacher.pause()
     teacher.assert_shows([*lines, moved(count)])

@@ -122,8 +122,8 @@ def test_a_fault_is_told_at_its_token(own: Teacher, text: str) -> None:
     own.write_rule(rule)
     own.wait_until("!document.getElementById('rule-fault').hidden")
     token = reply.get("token", "")
-    told = own.value("({ ...document.getElementById('rule-fault').dataset })")
-    assert told == {"fault": str(reply["fault"]), "token": str(token)}
+    fields = own.value("({ ...document.getElementById('rule-fault').dataset })")
+    assert fields == {"fault": str(reply["fault"]), "token": str(token)}
     assert title.lower() in own.value("document.getElementById('rule-fault').textContent").lower()
     # A fault at the end of the text has the number of the token that is missing.
     tokens = [*text.split(), ""]

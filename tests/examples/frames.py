@@ -28,11 +28,13 @@ def in_colours(x: int, y: int) -> int:
 def replies() -> str:
     """Replies of a machine: a plane, and then rows in colours."""
     rows = [sum(in_plane(x, y) << SIDE - 1 - x for x in range(SIDE)) for y in range(SIDE)]
-    said: list[dict[str, Any]] = [{"ok": "rule"}, {"ok": "cycle"}]
-    said += [{"ok": "plane", "rows": [f"{row:0{SIDE // 4}x}" for row in rows]}]
-    said += [{"ok": "run", "position": 0}, {"fault": 61}, {"count": len(CELLS), "ok": "count"}]
-    said += [{"colours": "".join(f"{in_colours(x, y):x}" for x in range(SIDE)), "ok": "colours"} for y in range(SIDE)]
-    return "".join(f"{plain(reply).decode()}\n" for reply in [*said, {"ok": "run", "position": 0}])
+    spelled: list[dict[str, Any]] = [{"ok": "rule"}, {"ok": "cycle"}]
+    spelled += [{"ok": "plane", "rows": [f"{row:0{SIDE // 4}x}" for row in rows]}]
+    spelled += [{"ok": "run", "position": 0}, {"fault": 61}, {"count": len(CELLS), "ok": "count"}]
+    spelled += [
+        {"colours": "".join(f"{in_colours(x, y):x}" for x in range(SIDE)), "ok": "colours"} for y in range(SIDE)
+    ]
+    return "".join(f"{plain(reply).decode()}\n" for reply in [*spelled, {"ok": "run", "position": 0}])
 
 
 def hue(colour: int) -> int:

@@ -31,18 +31,18 @@ def marked(found: re.Match[str]) -> str:
     """What was found, as an example may say it."""
     text, unit = found[0], found[1] or found[0]
     times = f"{len(text) // len(unit)}*" if found[1] else ""
-    said = unit if " " <= unit[0] <= "~" else f"x {unit.encode().hex(' ').upper()}"
-    return f"«{times}{said}»"
+    spelled = unit if " " <= unit[0] <= "~" else f"x {unit.encode().hex(' ').upper()}"
+    return f"«{times}{spelled}»"
 
 
 def shown(text: str) -> str:
     """A text as an example says it. Blanks at its ends stand in marks."""
-    said, at = "", 0
+    spelled, at = "", 0
     for found in BLANK_ROWS.finditer(text):
-        said += REPEATED_OR_UNSEEN.sub(marked, text[at : found.start()])
-        said += f"«{len(found[0]) // len(found[1])}*{found[1]}»"
+        spelled += REPEATED_OR_UNSEEN.sub(marked, text[at : found.start()])
+        spelled += f"«{len(found[0]) // len(found[1])}*{found[1]}»"
         at = found.end()
-    text = said + REPEATED_OR_UNSEEN.sub(marked, text[at:])
+    text = spelled + REPEATED_OR_UNSEEN.sub(marked, text[at:])
     return re.sub("^ +| +$", lambda blanks: f"«{len(blanks[0])}* »", text)
 
 

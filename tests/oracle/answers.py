@@ -17,10 +17,10 @@ from oracle.rules import bit_of_block, rule_of
 
 def reading(line: bytes) -> bytes:
     """The plainest line that says the same, or the fault."""
-    said = read_line(line, is_command)
-    if isinstance(said, int):
-        return plain({"fault": said})
-    return plain(said | {"bits": said["bits"].lower()} if "bits" in said else said)
+    command = read_line(line, is_command)
+    if isinstance(command, int):
+        return plain({"fault": command})
+    return plain(command | {"bits": command["bits"].lower()} if "bits" in command else command)
 
 
 def text_answer(text: str, half: str, hood: str, minor: str) -> bytes:

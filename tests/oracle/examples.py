@@ -143,10 +143,10 @@ class Example:
         """The line that comes back otherwise, counted from 1, or 0 if the file isn't wrong on purpose."""
         if not self.name.startswith("wrong_"):
             return 0
-        said = re.match(r"Wrong on purpose: .*?\bline ([1-9][0-9]*)\b", self.head)
-        if not said:
+        found = re.match(r"Wrong on purpose: .*?\bline ([1-9][0-9]*)\b", self.head)
+        if not found:
             raise Unplayable(f"{self.name}: its head doesn't say which line is wrong")
-        return int(said[1])
+        return int(found[1])
 
     def last_part(self) -> Part:
         """The last part. Lines before the first one are a session."""

@@ -74,15 +74,15 @@ class Definition(NamedTuple):
 
 def seen_by(items: list[Item]) -> Iterator[str]:
     """The neighbours that items may look at."""
-    for kind, said in items:
+    for kind, content in items:
         if kind == "neighbour":
-            yield said
+            yield content
         elif kind == "name":
-            yield from said.seen
+            yield from content.seen
         elif kind == "case":
-            yield from seen_by(said)
+            yield from seen_by(content)
         elif kind == "if":
-            for body in said:
+            for body in content:
                 yield from seen_by(body)
 
 
@@ -223,8 +223,8 @@ class Cell:
 
     def do(self, items: list[Item]) -> None:
         """Does items, one after another."""
-        for kind, said in items:
-            getattr(self, f"do_{kind}")(said)
+        for kind, content in items:
+            getattr(self, f"do_{kind}")(content)
 
     def taken(self, count: int) -> list[int]:
         """The upper values, which are taken off the stack."""

@@ -158,5 +158,5 @@ class Replay:
 
     def answer(self, line: bytes) -> bytes:
         """What comes of a line."""
-        said = read_line(line, is_event)
-        return plain({"fault": said} if isinstance(said, int) else self.host.apply(said))
+        event = read_line(line, is_event)
+        return plain({"fault": event} if isinstance(event, int) else self.host.apply(event))

@@ -189,12 +189,12 @@ def is_event(value: Any) -> bool:
     return is_one_of(value, "event", EVENTS)
 
 
-def is_spelled(line: bytes, said: dict[str, Any]) -> bool:
+def is_spelled(line: bytes, command: dict[str, Any]) -> bool:
     """Whether a line is spelled as it has to be: one that loads a machine has one spelling."""
-    if said.get("do") != "load":
+    if command.get("do") != "load":
         return True
-    digits = str(said["machine"]["planes"])
-    return line == plain(said) and digits == digits.lower()
+    digits = str(command["machine"]["planes"])
+    return line == plain(command) and digits == digits.lower()
 
 
 def read_line(line: bytes, is_said: Shape) -> int | dict[str, Any]:

@@ -265,10 +265,10 @@ class Alone:
 
     def short_answer(self, line: bytes, most: int | None) -> bytes | None:
         """The reply to a line; or None, if it has steps of more cells than the most, and nothing is done."""
-        said = read_line(line, is_command)
-        if isinstance(said, int):
-            return plain({"fault": said})
-        reply = self.machine.do(said)
+        command = read_line(line, is_command)
+        if isinstance(command, int):
+            return plain({"fault": command})
+        reply = self.machine.do(command)
         if most is not None and self.machine.is_long(most):
             self.machine.forget()
             return None

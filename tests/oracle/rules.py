@@ -43,13 +43,13 @@ class Rule:
         self.key = key
         definition, lines = forth.read_text(key.text, key.half, key.hood, key.minor), lines_of(key.hood, key.minor)
         self.names = [name for name in lines if name in definition.seen | CENTRES]
-        self.said: dict[tuple[int, ...], tuple[int, int]] = {}
+        self.bits_of: dict[tuple[int, ...], tuple[int, int]] = {}
         self.stop: dict[str, int] | None = None
         self.tables = [bytearray(256) for _ in range(16)]
         for bits in product((0, 1), repeat=len(self.names)):
             seen = dict(zip(self.names, reversed(bits)))
             try:
-                lower, upper = self.said[bits[::-1]] = forth.bits_of(definition, seen)
+                lower, upper = self.bits_of[bits[::-1]] = forth.bits_of(definition, seen)
             except forth.RuleFault as fault:
                 address = sum(bit << lines.index(name) for name, bit in seen.items())
                 self.stop = {"address": address, "fault": fault.args[0]}
@@ -60,7 +60,7 @@ class Rule:
     def at(self, address: int) -> int:
         """What the words write at an address: lower bit and twice the upper one."""
         lines = lines_of(self.key.hood, self.key.minor)
-        lower, upper = self.said[tuple(address >> lines.index(name) & 1 for name in self.names)]
+        lower, upper = self.bits_of[tuple(address >> lines.index(name) & 1 for name in self.names)]
         return lower | upper << 1
 
     @cache
@@ -72,7 +72,7 @@ class Rule:
         """What a state of a block becomes."""
         new = 0
         for place in range(4):
-            lower, upper = self.said[tuple(bit_of_block(name, state, phase, place) for name in self.names)]
+            lower, upper = self.bits_of[tuple(bit_of_block(name, state, phase, place) for name in self.names)]
             new |= lower << place | upper << place + 4
         return new
 

@@ -25,16 +25,16 @@ def numbers(planes: list[bytes]) -> bytes:
     return number.to_bytes(len(planes[0]), "little")
 
 
-def said_to(rule: Rule, planes: list[bytes]) -> bytes:
+def states_left(rule: Rule, planes: list[bytes]) -> bytes:
     """What a rule's words say to what each cell sees, plane by plane in the order of the rule's names."""
     lower, upper = numbers(planes[:8]), numbers(planes[8:]) if planes[8:] else b""
     if not upper:
         return lower.translate(rule.tables[0])
-    said = 0
+    states = 0
     for number in set(upper):
         is_there = upper.translate(bytes(3 * (number == other) for other in range(256)))
-        said |= int.from_bytes(lower.translate(rule.tables[number]), "little") & int.from_bytes(is_there, "little")
-    return said.to_bytes(len(lower), "little")
+        states |= int.from_bytes(lower.translate(rule.tables[number]), "little") & int.from_bytes(is_there, "little")
+    return states.to_bytes(len(lower), "little")
 
 
 def shifted(row: bytes, columns: int) -> bytes:
@@ -79,8 +79,10 @@ class Torus:
     def step_half(self, rule: Rule, grid: str, phase: int) -> list[list[bytes]]:
         """The two planes of the rule's half after a step."""
         rows, half = range(self.side), rule.key.half
-        said = said_to(rule, [b"".join(self.shown(name, half, grid, phase, y) for y in rows) for name in rule.names])
-        bits = (said.translate(BITS[place]) for place in (0, 1))
+        states = states_left(
+            rule, [b"".join(self.shown(name, half, grid, phase, y) for y in rows) for name in rule.names]
+        )
+        bits = (states.translate(BITS[place]) for place in (0, 1))
         return [[plane[y * self.side : (y + 1) * self.side] for y in rows] for plane in bits]
 
     def undo_half(self, rule: Rule, grid: str, phase: int) -> list[list[bytes]]:

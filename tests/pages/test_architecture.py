@@ -166,9 +166,11 @@ def test_a_head_is_true(crate: str) -> None:
     source = "".join(text_of(root) for root in roots if root.is_file())
     head = "".join(re.findall(r"^//!.*\n", source, re.M))
     paragraph, wanted = paragraph_of(head, "Stands on"), set(LISTED[crate])
-    said = set(named(paragraph))
-    told = said.union(*map(below, said)) if "what they stand on" in paragraph.replace("\n", " ") else said
-    assert said <= wanted <= told
+    stated = set(named(paragraph))
+    stated_and_below = (
+        stated.union(*map(below, stated)) if "what they stand on" in paragraph.replace("\n", " ") else stated
+    )
+    assert stated <= wanted <= stated_and_below
     every = set(LISTED).union(*LISTED.values())
     listed = {name for name in named(paragraph_of(head, "Read next")) if re.fullmatch(r"[a-z_]\w*", name)} - every
     assert listed == set(re.findall(r"^(?:pub(?:\(\w+\))? )?mod (\w+)", source, re.M))
@@ -198,5 +200,5 @@ def test_the_sources_have_one_version() -> None:
 
 def test_the_program_tells_its_version(cam6: str) -> None:
     """It is the one that stands first in CHANGELOG."""
-    told = re.fullmatch(rf"cam6 {VERSION}\n", ran([cam6, "--version"]).output.decode())
-    assert told and told[1] == NEWEST
+    found = re.fullmatch(rf"cam6 {VERSION}\n", ran([cam6, "--version"]).output.decode())
+    assert found and found[1] == NEWEST

@@ -19,11 +19,11 @@ def of_pages(sessions_of: Callable[[str], Iterable[Iterable[object]]]) -> list[P
     return [pytest.param(*session, id=name) for name, session in found]
 
 
-def assert_answers(sent: list[str], came: list[str], told: list[str]) -> None:
+def assert_answers(sent: list[str], came: list[str], wanted: list[str]) -> None:
     """Fails if the answers aren't those that a page tells."""
-    pairs = zip(came, told)
+    pairs = zip(came, wanted)
     wholes = [one if begun.endswith("..") and one.startswith(begun[:-2]) else begun for one, begun in pairs]
-    assert_replies(sent, came, wholes + told[len(came) :])
+    assert_replies(sent, came, wholes + wanted[len(came) :])
 
 
 @pytest.mark.parametrize(("words", "typed", "answered"), of_pages(sessions_of))

@@ -87,7 +87,7 @@ class Asking(RuleBasedStateMachine):
         self.came: list[bytes] = []
         self.wanted: list[bytes] = []
         # What was said so far, as it may be broken.
-        self.said: list[Command] = [do("rules")]
+        self.sent: list[Command] = [do("rules")]
 
     def machine_at(self) -> Machine:
         """The machine of the oracle that is asked next."""
@@ -115,7 +115,7 @@ class Asking(RuleBasedStateMachine):
 
     def tell(self, value: Command) -> None:
         """A command or an event in its plainest spelling."""
-        self.said.append(value)
+        self.sent.append(value)
         self.say(plain(value))
 
     def compare(self) -> None:
@@ -276,5 +276,5 @@ class Asking(RuleBasedStateMachine):
     @rule(random=st.randoms(use_true_random=False), data=st.data())
     def broken(self, random: Random, data: st.DataObject) -> None:
         """A line like one that was said, but broken."""
-        for line in Breaker(random).line(data.draw(st.sampled_from(self.said))).split(b"\n"):
+        for line in Breaker(random).line(data.draw(st.sampled_from(self.sent))).split(b"\n"):
             self.say(line)

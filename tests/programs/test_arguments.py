@@ -119,11 +119,11 @@ def test_a_host_has_these_users_and_boards(words: str, users: int, boards: int, 
     assert wait_until(lambda: it.of_process("Threads") == 1 + boards, 10), it.of_process("Threads")
     for user in range(1, users + 1):
         with Peer(it.port, user) as peer:
-            assert peer.said == '{"ok":"seat"}'
+            assert peer.reply == '{"ok":"seat"}'
             assert peer.ask('{"do":"side","side":512}') == '{"fault":67}'
             assert peer.ask('{"do":"side","side":256}') == '{"ok":"side"}'
     with Peer(it.port, users + 1) as peer:
-        assert peer.said == '{"fault":81}'
+        assert peer.reply == '{"fault":81}'
     assert it.ended() == Ran(0, b"", b"")
 
 

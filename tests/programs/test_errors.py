@@ -90,8 +90,8 @@ def test_a_host_replies_with_the_number(entry: Entry, host: Callable[..., Host])
         with ExitStack() as stack:
             # By the number of a connection, with which a line begins.
             peers = defaultdict[str, Peer](lambda: stack.enter_context(Peer(it.port, patience=10)))
-            said = [peers[number].ask(text) or "" for number, text in (line.split("> ", 1) for line in lines)]
-        return said
+            replies = [peers[number].ask(text) or "" for number, text in (line.split("> ", 1) for line in lines)]
+        return replies
 
     assert_is_told(entry, replies)
 

@@ -31,8 +31,8 @@ def written_for(command: list[str], data: bytes, env: dict[str, str] | None = No
 def byte_by_byte(command: list[str], data: bytes, short_reads: str, given: Path) -> bytes:
     """What a program writes if a library gives it a byte by each read, and a line more if that gave fewer bytes or more."""
     written = written_for(command, data, {"LD_PRELOAD": short_reads, "READ_AT": str(given)})
-    said = given.read_bytes()
-    return written if said == b"%d" % len(data) else written + b"%s of %d bytes are read\n" % (said, len(data))
+    count = given.read_bytes()
+    return written if count == b"%d" % len(data) else written + b"%s of %d bytes are read\n" % (count, len(data))
 
 
 def command_by_command(command: list[str], data: bytes) -> bytes:

@@ -103,9 +103,9 @@ def assert_no_memory_is_held(trial: Trial, process: int, send: Send, read: Read)
             for pair in pairs * sent:
                 assert_answers([pair], 1, send, read)
         held.append(of_process(process, "VmRSS"))
-    told = "{} kB before, {} after the first lines, {} after all".format(*held)
-    print(f"{told}, {of_process(process, 'VmHWM')} at most")
-    assert held[2] - held[1] < most_grown and held[2] - held[0] < most_held, told
+    figures = "{} kB before, {} after the first lines, {} after all".format(*held)
+    print(f"{figures}, {of_process(process, 'VmHWM')} at most")
+    assert held[2] - held[1] < most_grown and held[2] - held[0] < most_held, figures
 
 
 @pytest.mark.parametrize("trial", ALONE, ids=NAMES)

@@ -34,7 +34,7 @@ class Live:
     """./live on a terminal, until it has ended."""
 
     def __init__(self, *words: str) -> None:
-        self.said = b""
+        self.output = b""
         ours, theirs = pty.openpty()
 
         def begin() -> None:
@@ -52,17 +52,17 @@ class Live:
         self.terminal.write(b"\x03")
 
     def read(self) -> bool:
-        """Takes what was said by now. Returns whether more may come."""
+        """Reads what was written by now. Returns whether more may come."""
         with suppress(OSError):
             while select.select([self.terminal], [], [], 0)[0] and (part := self.terminal.read(4096)):
-                self.said += part
+                self.output += part
             return True
         return False
 
     def address(self) -> str:
         """The address that it prints, or nothing."""
-        wait_until(lambda: not self.read() or ADDRESS.search(self.said), START)
-        found = ADDRESS.search(self.said)
+        wait_until(lambda: not self.read() or ADDRESS.search(self.output), START)
+        found = ADDRESS.search(self.output)
         return found[1].decode() if found else ""
 
     def status(self) -> int:
@@ -84,7 +84,11 @@ class Live:
     def program(self, word: bytes) -> tuple[int, list[bytes]]:
         """The process of the program that has this among its arguments, and all of them."""
         words = {process: Path(f"/proc/{process}/cmdline").read_bytes().split(b"\0") for process in self.left()}
-        return next((process, said) for process, said in words.items() if word in said and b"bash" not in said[0])
+        return next(
+            (process, arguments)
+            for process, arguments in words.items()
+            if word in arguments and b"bash" not in arguments[0]
+        )
 
     def close(self) -> None:
         """Closes the terminal, and ends what is left."""
@@ -135,7 +139,7 @@ def test_both_programs_end(words: str, hosts: str, end: str, live: Starts) -> No
     ENDS[end](it)
     assert (it.status(), it.left()) == (0, [])
     assert hosts_at(address) == "", "nobody listens"
-    assert b"line" not in it.said and b"rror" not in it.said, it.said
+    assert b"line" not in it.output and b"rror" not in it.output, it.output
 
 
 def test_both_programs_end_with_their_terminal(live: Starts) -> None:
@@ -162,8 +166,8 @@ def test_it_ends_with_each_of_its_programs(what: str, word: bytes, live: Starts)
     assert it.address()
     os.kill(it.program(word)[0], signal.SIGKILL)
     assert (it.status(), it.left()) == (1, [])
-    assert f"{what} ended".encode() in it.said
-    assert b"illed" not in it.said, "the shell says nothing of its own"
+    assert f"{what} ended".encode() in it.output
+    assert b"illed" not in it.output, "the shell says nothing of its own"
 
 
 @pytest.mark.parametrize("word", [b"serve", b"--host"])
@@ -177,7 +181,7 @@ def test_a_later_message_of_each_program_is_passed_on(word: bytes, live: Starts)
     with ExitStack() as stack:
         for _ in range(8):
             stack.enter_context(socket.create_connection(("127.0.0.1", int(words[words.index(b"--port") + 1]))))
-        assert wait_until(lambda: it.read() and b": cannot accept a connection" in it.said, START), it.said
+        assert wait_until(lambda: it.read() and b": cannot accept a connection" in it.output, START), it.output
     it.press_ctrl_c()
     assert (it.status(), it.left()) == (0, [])
 
@@ -199,11 +203,11 @@ def test_all_that_a_program_says_is_passed_on(live: Starts, tmp_path: Path, monk
     loud.chmod(0o755)
     monkeypatch.setenv("CAM6", str(loud))
     it = live()
-    assert wait_until(lambda: it.read() and it.said.endswith(b"no end"), START), it.said
+    assert wait_until(lambda: it.read() and it.output.endswith(b"no end"), START), it.output
     it.press_ctrl_c()
     assert (it.status(), it.left()) == (0, [])
-    assert it.said.startswith(b"before\r\n")
-    assert b"".join(b"%d\r\n" % number for number in range(1, 10_000)) + b"no end" in it.said
+    assert it.output.startswith(b"before\r\n")
+    assert b"".join(b"%d\r\n" % number for number in range(1, 10_000)) + b"no end" in it.output
 
 
 def test_it_takes_no_ports_that_are_taken(live: Starts) -> None:
@@ -213,7 +217,7 @@ def test_it_takes_no_ports_that_are_taken(live: Starts) -> None:
                 stack.enter_context(socket.create_server(("127.0.0.1", port)))
         it, named = live(), live("--port", "6007")
         assert (named.status(), named.left()) == (3, [])
-        assert b"no port is free" in named.said
+        assert b"no port is free" in named.output
         address = it.address()
         assert address not in ("", "http://127.0.0.1:6007/")
         assert hosts_at(address) == "1", "the page is there"
@@ -232,8 +236,8 @@ ARGUMENTS = [
 ]
 
 
-@pytest.mark.parametrize(("words", "status", "said"), ARGUMENTS)
-def test_arguments_end_it(words: str, status: int, said: bytes, live: Starts) -> None:
+@pytest.mark.parametrize(("words", "status", "text"), ARGUMENTS)
+def test_arguments_end_it(words: str, status: int, text: bytes, live: Starts) -> None:
     it = live(*words.split())
     assert it.status() == status
-    assert said in it.said
+    assert text in it.output

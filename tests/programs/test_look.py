@@ -168,8 +168,8 @@ def on_terminal(size: tuple[int, int], command: list[str]) -> Ran:
         with suppress(OSError):
             while part := terminal.read(65536):
                 written += part
-        told = it.communicate()[1]
-    return Ran(it.returncode, written, told)
+        errors = it.communicate()[1]
+    return Ran(it.returncode, written, errors)
 
 
 @pytest.fixture
@@ -222,8 +222,8 @@ FLY = '{"do":"fly"}', 'line 1 of {path} is answered {{"fault":3}}'
 NO_CYCLE = '{"do":"side","side":512}', "{path} sets no cycle, so nothing can run"
 
 
-@pytest.mark.parametrize(("line", "told"), [FLY, NO_CYCLE])
-def test_a_file_that_cannot_be_shown_is_refused(line: str, told: str, look: Look, tmp_path: Path) -> None:
+@pytest.mark.parametrize(("line", "errors"), [FLY, NO_CYCLE])
+def test_a_file_that_cannot_be_shown_is_refused(line: str, errors: str, look: Look, tmp_path: Path) -> None:
     path = tmp_path / "mine.lines"
     path.write_text(line, encoding="utf-8")
-    assert look(str(path), "2") == Ran(1, b"", f"look: {told.format(path=path)}\n".encode())
+    assert look(str(path), "2") == Ran(1, b"", f"look: {errors.format(path=path)}\n".encode())

@@ -46,10 +46,10 @@ def verdicts(request: pytest.FixtureRequest, tmp_path_factory: pytest.TempPathFa
         for name, text in (texts | {"lib": f"#![tactic(auto)]\n{modules}#[test]\nfn is_compiled() {{}}\n"}).items():
             (crate / "src" / f"{name}.rt").write_text(text, encoding="utf-8")
         done = subprocess.run([rt, "try", "--test"], cwd=crate, capture_output=True, text=True, check=False)
-        told, pattern = done.stdout + done.stderr, r"(?<![a-z_]){}\.rt:[0-9].*error\[([a-z0-9-]+)\]"
-        errors = {name: sorted(set(re.findall(pattern.format(name), told))) for name in left if done.returncode}
+        text, pattern = done.stdout + done.stderr, r"(?<![a-z_]){}\.rt:[0-9].*error\[([a-z0-9-]+)\]"
+        errors = {name: sorted(set(re.findall(pattern.format(name), text))) for name in left if done.returncode}
         refused = {name: f"refused: {' '.join(some)}" for name, some in errors.items() if some}
-        found |= refused or dict.fromkeys(left, f"refused: {told}" if done.returncode else "accepted")
+        found |= refused or dict.fromkeys(left, f"refused: {text}" if done.returncode else "accepted")
         left = [name for name in left if name not in found]
     return found
 

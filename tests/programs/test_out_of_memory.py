@@ -202,8 +202,8 @@ def of_cam6(words: str, sent: Lines, how: Callable[[Lines, Lines, bool], str], b
     done = bench.ran([bench.cam6, *words.split()], sent, number)
     assert done._replace(output=b"") in (Ran(0, b""), NO_MEMORY) and done.output[-1:] in (b"", b"\n"), done
     got = lines_of(done.output)
-    told = how(got, sent, done.status == 0)
-    return told if done.status == 0 else "after answers" if got else "before the first answer"
+    what = how(got, sent, done.status == 0)
+    return what if done.status == 0 else "after answers" if got else "before the first answer"
 
 
 def of_words(words: list[str], status: int, bench: Bench, number: int) -> str:
@@ -231,18 +231,18 @@ def served(host: Host, sent: Lines, peers: list[Peer]) -> tuple[Lines, list[int]
     again: list[int] = []
     closed, end = 0, time.monotonic() + PATIENCE
     while len(got) < len(sent) and closed + len(again) <= 3 and host.is_running() and time.monotonic() < end:
-        said = None
+        answer = None
         with suppress(OSError):
             peers.append(Peer(host.port, 1))
-            said = peers[-1].said
-            while said == SEATED and len(got) < len(sent) and (reply := peers[-1].ask(sent[len(got)].decode())):
+            answer = peers[-1].reply
+            while answer == SEATED and len(got) < len(sent) and (reply := peers[-1].ask(sent[len(got)].decode())):
                 got.append(reply.encode())
-        assert said in (SEATED, TAKEN, None)
-        if said == SEATED and len(got) < len(sent):
+        assert answer in (SEATED, TAKEN, None)
+        if answer == SEATED and len(got) < len(sent):
             assert len(got) not in again
             again.append(len(got))
             end = time.monotonic() + PATIENCE
-        closed += said is None
+        closed += answer is None
         time.sleep(0.01)
     return got, again, closed
 
@@ -266,7 +266,7 @@ def of_host(sent: Lines, bench: Bench, number: int) -> str:
             if not got and not again:
                 return NO_HOST[host.ended()]
             how = how_served(got, again, sent)
-            assert host.is_running() and len(host.said) == 1, host.said
+            assert host.is_running() and len(host.errors) == 1, host.errors
             return "at a connection, which is closed" if how == UNSEEN and closed else how
     except NotListening as why:
         return NO_HOST[why.done]

@@ -101,9 +101,11 @@ FAULTS: list[tuple[list[str], str, int, str]] = [
 ]
 
 
-@pytest.mark.parametrize(("words", "text", "status", "told"), FAULTS, ids=[" ".join(fault[0]) for fault in FAULTS])
-def test_arguments_and_replies_are_refused(words: list[str], text: str, status: int, told: str, cam6_rle: str) -> None:
-    assert_refused(read(cam6_rle, words, text), status, told)
+@pytest.mark.parametrize(("words", "text", "status", "message"), FAULTS, ids=[" ".join(fault[0]) for fault in FAULTS])
+def test_arguments_and_replies_are_refused(
+    words: list[str], text: str, status: int, message: str, cam6_rle: str
+) -> None:
+    assert_refused(read(cam6_rle, words, text), status, message)
 
 
 # Cells that are written as a text, the side, and the rule that the text names.

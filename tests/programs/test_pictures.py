@@ -92,9 +92,9 @@ def join_pictures(images: list[Image.Image], gap: int) -> Image.Image:
 def test_the_programs_and_the_oracle_draw_it(name: str, cam6: str, cam6_draw: str) -> None:
     drawing, wanted = gallery.drawing_of(name), pictures_in(FOLDER / f"{name}.png")
     done = ran([cam6], "".join(f"{line}\n" for line in drawing.lines).encode())
-    told = [json.loads(reply) for reply in done.output.splitlines()]
-    assert (done.status, len(told)) == (0, len(drawing.lines))
-    assert not [reply for reply in told if "fault" in reply]
+    replies = [json.loads(reply) for reply in done.output.splitlines()]
+    assert (done.status, len(replies)) == (0, len(drawing.lines))
+    assert not [reply for reply in replies if "fault" in reply]
     asked, theirs = OPTIONS.parse_args(drawing.draw), ran([cam6_draw, "--ppm", *drawing.draw], done.output)
     ours = draw(done.output.decode(), asked.scale, asked.crop, asked.palette)
     assert theirs.status == 0
@@ -154,11 +154,11 @@ REFUSED = [
 ]
 
 
-@pytest.mark.parametrize(("words", "data", "status", "told"), REFUSED, ids=[f"{it[0]}: {it[3]}" for it in REFUSED])
-def test_nothing_is_drawn_or_packed(words: str, data: bytes, status: int, told: str, cam6_draw: str) -> None:
+@pytest.mark.parametrize(("words", "data", "status", "message"), REFUSED, ids=[f"{it[0]}: {it[3]}" for it in REFUSED])
+def test_nothing_is_drawn_or_packed(words: str, data: bytes, status: int, message: str, cam6_draw: str) -> None:
     name, *options = words.split()
     command = FILM if name == "film" else [cam6_draw]
-    assert_refused(ran([*command, *options], data), status, told)
+    assert_refused(ran([*command, *options], data), status, message)
 
 
 @pytest.mark.parametrize(("word", "front"), [("--version", b"cam6_draw 1 ("), ("--help", b"Draws the cells")])

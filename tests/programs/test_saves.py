@@ -180,7 +180,7 @@ def others_of(size: int) -> list[Pair]:
         (filled(size, b'{"do":"load"', b" "), fault(2)),
         (filled(size, b"x", b"x"), fault(2)),
     ]
-    return [(line, told if size <= LINE_LIMIT else fault(1)) for line, told in found]
+    return [(line, reply if size <= LINE_LIMIT else fault(1)) for line, reply in found]
 
 
 REPLAY = ("replay", "--users", "1", "--boards", "1", "--cache", "1")
@@ -250,7 +250,7 @@ def test_a_first_line_is_as_long_as_a_line_may_be(connected: Connects) -> None:
 def test_a_machine_goes_from_seat_to_seat(alone: Asks, connected: Connects) -> None:
     (run, after, _), (_, further, back) = (course_of(LARGE, steps) for steps in (21, 42))
     one, two = connected(1), connected(2)
-    assert (one.said, two.said) == (SEATED.decode(), SEATED.decode())
+    assert (one.reply, two.reply) == (SEATED.decode(), SEATED.decode())
     at_one, at_two = partial(reply, one), partial(reply, two)
     assert_answers(at_one, is_loaded(LARGE), run, is_saved(after))
     # Another user's machine is as it was.

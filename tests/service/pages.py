@@ -127,7 +127,7 @@ class Socket(Peer):
         if self.protocol.handshake_exc:
             self.close()
             raise self.protocol.handshake_exc
-        self.said = None if seat is None else self.ask(SEAT % seat)
+        self.reply = None if seat is None else self.ask(SEAT % seat)
 
     def flush(self) -> None:
         """Sends what the protocol has to say: the handshake, and answers to pings and closes."""
@@ -200,13 +200,13 @@ def status_of(port: int, path: str = "/ws", fields: Fields | None = None) -> int
     return 101
 
 
-class Told(StreamRequestHandler):
+class Received(StreamRequestHandler):
     """A connection: what it told the host, and whether it has ended. The line `L` is answered by `[L]`. After `end` the
     host ends the connection, and `bytes` is answered by a line that isn't UTF-8."""
 
     def handle(self) -> None:
         self.data, self.has_ended = b"", threading.Event()
-        cast(Recorder, self.server).told.append(self)
+        cast(Recorder, self.server).connections.append(self)
         with suppress(OSError):
             for line in self.rfile:
                 self.data += line
@@ -217,14 +217,14 @@ class Told(StreamRequestHandler):
 
 
 class Recorder(ThreadingTCPServer):
-    """A host that writes down each byte that it is told. `told` has the connections in the order in which they came."""
+    """A host that writes down each byte that it is told. `connections` are in the order in which they came."""
 
     daemon_threads, block_on_close, request_queue_size = True, False, 512
 
     def __init__(self) -> None:
-        super().__init__(("127.0.0.1", 0), Told)
+        super().__init__(("127.0.0.1", 0), Received)
         self.port: int = self.server_address[1]
-        self.told: list[Told] = []
+        self.connections: list[Received] = []
         threading.Thread(target=self.serve_forever, args=(0.05,), daemon=True).start()
 
     def server_close(self) -> None:

@@ -59,7 +59,7 @@ def test_who_goes_within_a_run_is_seated_until_it_is_done(cam6: str, there: Host
     peer.send(f"{RUN % 65535}\n")
     go(peer)
     with Peer(there.port, 1) as other:
-        assert (other.said, other.read()) == (TAKEN, None)
+        assert (other.reply, other.read()) == (TAKEN, None)
     with seated(Peer, there.port, 1, END) as again:
         # The run is done all the same.
         shown = answers(again, [ROW % 6, ROW % 7])
@@ -85,7 +85,7 @@ def test_who_never_reads_keeps_the_seat_and_leaves_it_by_going(there: Host) -> N
     peer = Peer(there.port, 3)
     fill(peer)
     with Peer(there.port, 3) as other:
-        assert (peer.said, other.said) == (SEATED, TAKEN)
+        assert (peer.reply, other.reply) == (SEATED, TAKEN)
     time.sleep(1)
     peer.reset()
     is_free(there, 3)
@@ -144,7 +144,7 @@ def limit(host: Host, kind: int, most: int) -> int:
 
 def test_connections_without_a_thread_are_closed_and_others_are_served(there: Host) -> None:
     # There is room for what a session takes and for the stacks of threads that have ended, and for no other.
-    threads, said = there.of_process("Threads"), set()
+    threads, replies = there.of_process("Threads"), set()
     with connected(Peer, there.port, 3):
         assert wait_until(lambda: there.of_process("Threads") == threads + 3)
     assert wait_until(lambda: there.of_process("Threads") == threads)
@@ -152,11 +152,11 @@ def test_connections_without_a_thread_are_closed_and_others_are_served(there: Ho
     with connected(Peer, there.port, 30) as peers:
         for peer in peers:
             try:
-                said.add(peer.ask(SEAT % 9))
+                replies.add(peer.ask(SEAT % 9))
             except ConnectionError:
-                said.add(None)
+                replies.add(None)
     limit(there, resource.RLIMIT_AS, before)
-    assert said in ({None}, {None, NO_SEAT})
+    assert replies in ({None}, {None, NO_SEAT})
     is_free(there, 4)
 
 
@@ -170,7 +170,7 @@ def test_who_finds_no_file_left_is_answered_once_others_have_gone(there: Host) -
     most = max(files(there)) + 5
     before = limit(there, resource.RLIMIT_NOFILE, most)
     with connected(Peer, there.port, 20):
-        assert wait_until(lambda: len(there.said) > 1)
+        assert wait_until(lambda: len(there.errors) > 1)
         waits = Peer(there.port)
         waits.send(f"{SEAT % 9}\n")
         assert there.is_running()
@@ -204,7 +204,7 @@ def test_a_host_that_had_a_client_does_not_end_if_nobody_can_be_accepted(host: H
         assert [waits.read(), waits.read()] == [SEATED, ONE_NAME]
     one.kill()
     # It tells so once a minute.
-    assert ["cannot accept" in line for line in one.said] == [False, True], one.said
+    assert ["cannot accept" in line for line in one.errors] == [False, True], one.errors
 
 
 def test_a_host_that_had_no_client_ends_after_a_second_if_nobody_can_be_accepted(host: Hosts) -> None:

@@ -111,7 +111,7 @@ def test_who_reads_nothing_loses_the_seat_after_a_minute(host_with_user: Hosts) 
         end = time.monotonic() + SEND + 3 * GRACE
         time.sleep(SEND / 2)
         with Peer(one.port, 1) as first, Peer(one.port, 2) as second:
-            assert (first.said, second.said) == (TAKEN, TAKEN)
+            assert (first.reply, second.reply) == (TAKEN, TAKEN)
         for user in (1, 2):
             seated(Peer, one.port, user, end - time.monotonic()).close()
 
@@ -138,12 +138,12 @@ def test_runs_are_no_silence(cam6: str, host_with_user: Hosts) -> None:
     session = [*START, RUN % 65535, ROW % 7]
     with Peer(host_with_user(3, "--users=3", "--idle=2").port, 1) as peer:
         begun = time.monotonic()
-        said = answers(peer, session)
+        replies = answers(peer, session)
         # So many runs take three seconds, for which the client says nothing.
         count = 1 + int(3 / (time.monotonic() - begun))
         peer.send(f"{RUN % 65535}\n" * count)
         assert [peer.read() for _ in range(count)] == ['{"ok":"run","position":0}'] * count
-    assert said == private(cam6, session)
+    assert replies == private(cam6, session)
 
 
 def expensive_lines(count: int) -> list[str]:

@@ -23,14 +23,14 @@ NOT_TAKEN += ["--port 65536", f"--connections {2**64}", f"--idle {2**32}"]
 
 def test_of_64_clients_at_once_four_have_the_seats_of_four_users(host: Hosts) -> None:
     one = host("--connections=64")
-    assert one.said == [f"listening on 127.0.0.1:{one.port}"]
+    assert one.errors == [f"listening on 127.0.0.1:{one.port}"]
     with connected(Peer, one.port, 64) as peers:
         for number, peer in enumerate(peers):
             peer.send(f"{SEAT % (1 + number % 4)}\n")
-        said = [peer.read() for peer in peers]
-        assert sorted(1 + number % 4 for number, line in enumerate(said) if line == SEATED) == [1, 2, 3, 4]
-        assert said.count(TAKEN) == 60
-        guests = [peer for peer, line in zip(peers, said) if line == SEATED]
+        replies = [peer.read() for peer in peers]
+        assert sorted(1 + number % 4 for number, line in enumerate(replies) if line == SEATED) == [1, 2, 3, 4]
+        assert replies.count(TAKEN) == 60
+        guests = [peer for peer, line in zip(peers, replies) if line == SEATED]
         # Each has a machine of their own.
         for number, guest in enumerate(guests):
             assert guest.ask(RULES) == NO_NAMES
@@ -50,8 +50,8 @@ def test_a_port_that_is_taken_ends_it_with_status_7(cam6: str) -> None:
 def test_a_board_without_a_thread_ends_it_with_status_8(cam6: str) -> None:
     # There is memory, and none for the stack of a thread.
     port, limits = free_port(), ["prlimit", f"--stack={1 << 40}:unlimited", f"--as={1 << 34}:unlimited"]
-    told = f"listening on 127.0.0.1:{port}\ncam6: no thread\n"
-    assert ran([*limits, cam6, "serve", "--port", str(port)], patience=PATIENCE) == Ran(8, b"", told.encode())
+    text = f"listening on 127.0.0.1:{port}\ncam6: no thread\n"
+    assert ran([*limits, cam6, "serve", "--port", str(port)], patience=PATIENCE) == Ran(8, b"", text.encode())
 
 
 @pytest.mark.parametrize("words", NOT_TAKEN)
@@ -73,7 +73,7 @@ OPTIONS = [
 def test_options_set_the_seats_and_the_largest_side(host: Hosts, options: str, users: int, side: int) -> None:
     one = host(*options.split())
     with Peer(one.port, users) as last, Peer(one.port, users + 1) as none:
-        assert (last.said, none.said) == (SEATED, NO_SEAT)
+        assert (last.reply, none.reply) == (SEATED, NO_SEAT)
         for asked in (128, 256, 512):
             assert last.ask(line_of(do="side", side=asked)) == ('{"ok":"side"}' if asked <= side else '{"fault":67}')
 
@@ -83,7 +83,7 @@ def test_the_usual_port_is_6006(cam6: str) -> None:
         if usual.connect_ex(("127.0.0.1", 6006)) == 0:
             pytest.skip("LEFT OUT: somebody listens at port 6006")
     with Listener(lambda _: [cam6, "serve"], 6006, None) as one:
-        assert one.said == ["listening on 127.0.0.1:6006"]
+        assert one.errors == ["listening on 127.0.0.1:6006"]
 
 
 def at_once(host: Hosts, failing: str, call: str, number: int, error: int) -> tuple[list[str], str | None]:
@@ -92,12 +92,12 @@ def at_once(host: Hosts, failing: str, call: str, number: int, error: int) -> tu
     env = {"FAILED": call, "FAILED_AT": str(number), "FAILED_BY": str(error), "LD_PRELOAD": failing}
     one = host("--users=1", "--boards=1", env=env)
     with Peer(one.port, 1) as peer:
-        if peer.said == SEATED:
+        if peer.reply == SEATED:
             peer.send("".join(f"{line}\n" for line in CHANGES))
             peer.socket.shutdown(socket.SHUT_WR)
-        said = list(iter(peer.read, None))
+        replies = list(iter(peer.read, None))
     with seated(Peer, one.port, 1) as peer:
-        return said, peer.ask(PLANES[0])
+        return replies, peer.ask(PLANES[0])
 
 
 @cache
@@ -110,11 +110,11 @@ def test_answers_break_off_where_a_send_fails_and_none_is_lost_before(cam6: str,
     # The answer to the first line is one send, those up to each run are another one, and the last ones too.
     places = set()
     for number in range(1, 8):
-        said, plane = at_once(host, library("failing"), "send", number, errno.ENOBUFS)
-        assert said == private(cam6, CHANGES)[: len(said)], number
+        replies, plane = at_once(host, library("failing"), "send", number, errno.ENOBUFS)
+        assert replies == private(cam6, CHANGES)[: len(replies)], number
         # All that was answered is done. What was done unanswered is what one packet's answers and a run may be.
-        assert plane in planes(cam6)[len(said) :], number
-        places.add(len(said))
+        assert plane in planes(cam6)[len(replies) :], number
+        places.add(len(replies))
     assert len(places) > 3
 
 

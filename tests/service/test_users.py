@@ -222,7 +222,7 @@ class Users(RuleBasedStateMachine):
         """Another client asks for a seat that is taken."""
         self.sits(user)
         with Peer(self.host.port, user) as other:
-            assert other.said == TAKEN
+            assert other.reply == TAKEN
 
     def teardown(self) -> None:
         """In the end each machine is compared."""

@@ -97,7 +97,7 @@ def one(steady: Socket) -> Iterator[Socket]:
 
 def test_a_host_is_told_each_message_as_its_line(host: Recorder, one: Socket) -> None:
     assert answers_at_once(one, LINES) == [f"[{line}]" for line in LINES]
-    assert host.told[-1].data.decode() == "".join(f"{line}\n" for line in LINES)
+    assert host.connections[-1].data.decode() == "".join(f"{line}\n" for line in LINES)
     assert one.leave("bye") == 1000
 
 
@@ -108,19 +108,19 @@ def test_frames_may_come_in_any_pieces(host: Recorder, one: Socket, what: str) -
         one.send(piece)
     came = [one.frame() for _ in [*pongs, *lines]]
     assert [frame and frame.data for frame in came] == [*pongs, *(f"[{line}]".encode() for line in lines)]
-    assert host.told[-1].data.decode() == "".join(f"{line}\n" for line in lines)
+    assert host.connections[-1].data.decode() == "".join(f"{line}\n" for line in lines)
 
 
 @pytest.mark.parametrize("row", each_row("messages"))
 def test_a_message_that_is_no_line_closes_the_socket(host: Recorder, one: Socket, steady: Socket, row: Row) -> None:
     assert one.ask("first") == "[first]"
-    told = host.told[-1]
+    connection = host.connections[-1]
     # What comes behind a frame in the same piece isn't told either.
     frames = [frame_of(**{"opcode": 1} | frame) for frame in row.get("frames", [])]
     data = bytes.fromhex(row.get("raw", "")) or b"".join([*frames, frame_of(Opcode.TEXT, b"behind")])
     threading.Thread(target=one.try_to_send, args=(data,), daemon=True).start()
     (code, reason), end = row["close"], one.closed()
     assert end and end[0] in (code, *row.get("or", [])) and reason in (None, end[1])
-    assert wait_until(told.has_ended.is_set), "the connection to the host is still open"
-    assert told.data == b"first\n"
+    assert wait_until(connection.has_ended.is_set), "the connection to the host is still open"
+    assert connection.data == b"first\n"
     assert steady.ask("on") == "[on]"

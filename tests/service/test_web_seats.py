@@ -76,7 +76,7 @@ def test_after_a_message_that_takes_no_seat_the_host_is_gone(host: Hosts, page: 
 def test_each_seat_has_a_machine_of_its_own(host: Hosts, page: Pages, readme: Session) -> None:
     port = page(host("--users=2", "--side=512").port).port
     with Socket(port, 1) as one, Socket(port, 2) as other:
-        assert (one.said, other.said) == (SEATED, SEATED)
+        assert (one.reply, other.reply) == (SEATED, SEATED)
         assert_replies(readme.lines, answers(one, readme.lines), readme.replies)
         assert one.ask(COUNT) != other.ask(COUNT) == BLANK
 
@@ -106,10 +106,10 @@ def test_sockets_of_the_second_path_are_those_of_the_second_host(host: Hosts, pa
     port = page(first.port, second.port).port
     assert get(port, "/hosts").body.strip() == b"2"
     with Socket(port, 1, "/ws/1") as one, Socket(port, 1, "/ws/2") as two, Socket(port, 1) as other:
-        assert (one.said, two.said) == (SEATED, SEATED)
+        assert (one.reply, two.reply) == (SEATED, SEATED)
         assert answers(two, readme.lines) == readme.replies
         assert one.ask(COUNT) == BLANK
-        assert other.said == TAKEN, "the path without a number is the first host"
+        assert other.reply == TAKEN, "the path without a number is the first host"
     second.kill()
     with Socket(port, path="/ws/2") as two:
         assert two.closed() == GONE, "the second host goes alone"
@@ -131,7 +131,7 @@ def test_a_host_may_go_and_come_back(host: Hosts, page: Pages, readme: Session) 
         if life:
             its_host.begin()
         with Socket(served.port, 1) as one, Socket(served.port, 2, patience=SEAT_PATIENCE) as silent:
-            assert (one.said, silent.said) == (SEATED, SEATED)
+            assert (one.reply, silent.reply) == (SEATED, SEATED)
             assert answers(one, readme.lines) == readme.replies
             its_host.kill()
             assert end_of_next(one) == GONE

@@ -60,10 +60,10 @@ def answers(peer: Peer, lines: list[str]) -> list[str | None]:
 def seated(kind: Callable[[int, int], P], port: int, user: int, patience: float = PATIENCE) -> P:
     """A connection of a kind at a user's seat, once nobody has it. Fails if somebody has it for so many seconds."""
     end = time.monotonic() + patience
-    while (peer := kind(port, user)).said == TAKEN and time.monotonic() < end:
+    while (peer := kind(port, user)).reply == TAKEN and time.monotonic() < end:
         peer.close()
         time.sleep(0.02)
-    assert peer.said == SEATED, f"user {user}: {peer.said}"
+    assert peer.reply == SEATED, f"user {user}: {peer.reply}"
     return peer
 
 

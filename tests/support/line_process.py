@@ -62,10 +62,10 @@ class LineProcess:
             return b"nothing\n"
         self.say(data)
         try:
-            said, told = self.process.communicate(timeout=self.left())
+            output, errors = self.process.communicate(timeout=self.left())
         except subprocess.TimeoutExpired:
             return self.unread + b"nothing\n"
-        return self.unread + said + how_it_ended(self.process.returncode, told)
+        return self.unread + output + how_it_ended(self.process.returncode, errors)
 
     def __enter__(self) -> LineProcess:
         return self
@@ -76,6 +76,6 @@ class LineProcess:
             self.process.kill()
 
 
-def how_it_ended(status: int, told: bytes) -> bytes:
+def how_it_ended(status: int, errors: bytes) -> bytes:
     """A line more if a program didn't end well."""
-    return b"" if (status, told) == (0, b"") else b"the program: status %d, %r\n" % (status, told)
+    return b"" if (status, errors) == (0, b"") else b"the program: status %d, %r\n" % (status, errors)

@@ -54,10 +54,10 @@ def ran(command: Iterable[str], data: bytes = b"", env: Env = None, patience: fl
         return Ran(done.returncode, output.read(), done.stderr)
 
 
-def assert_refused(done: Ran, status: int, told: str) -> None:
+def assert_refused(done: Ran, status: int, message: str) -> None:
     """Fails if a program didn't end with this status, without output, and with this text among its errors."""
     assert (done.status, done.output) == (status, b"")
-    assert told in done.errors.decode()
+    assert message in done.errors.decode()
 
 
 def private(cam6: str, lines: Iterable[str], side: int = 512) -> list[str]:
@@ -105,19 +105,19 @@ class Listener:
 
     def __init__(self, command: Command, port: int | None, env: Env = None, stdin: int = DEVNULL) -> None:
         self.command_at, self.port, self.env, self.stdin = command, port or free_port(), dict(env or {}), stdin
-        self.said: list[str] = []
+        self.errors: list[str] = []
         for _ in range(1 if port else STARTS):
             if self.begins():
                 return
             if self.process.returncode != NETWORK_FAILED:
                 break
             self.port = free_port()
-        errors = "".join(f"{line}\n" for line in self.said).encode()
+        errors = "".join(f"{line}\n" for line in self.errors).encode()
         raise NotListening(self.command_at(self.port), Ran(self.process.returncode, b"", errors))
 
     def begins(self) -> bool:
         """Starts the program. Returns whether it listens."""
-        self.said = []
+        self.errors = []
         command, env = self.command_at(self.port), os.environ | self.env
         self.process = subprocess.Popen(command, stdin=self.stdin, stdout=PIPE, stderr=PIPE, env=env)
         is_told = threading.Event()
@@ -125,14 +125,14 @@ class Listener:
         def listen() -> None:
             assert self.process.stderr
             for line in self.process.stderr:
-                self.said.append(line.decode(errors="replace").rstrip("\n"))
+                self.errors.append(line.decode(errors="replace").rstrip("\n"))
                 is_told.set()
             is_told.set()
 
         self.reader = threading.Thread(target=listen, daemon=True)
         self.reader.start()
         is_told.wait(START)
-        if self.said[:1] == [self.first.format(self.port)]:
+        if self.errors[:1] == [self.first.format(self.port)]:
             return True
         self.ended(START)
         self.kill()
@@ -140,7 +140,7 @@ class Listener:
 
     def begin(self) -> None:
         """Starts the program again, at the same port."""
-        assert wait_until(self.begins, START), self.said
+        assert wait_until(self.begins, START), self.errors
 
     def kill(self) -> None:
         """Ends the program at once."""
@@ -158,7 +158,7 @@ class Listener:
         assert self.process.stdout
         output = b"" if self.process.stdout.closed else self.process.stdout.read()
         self.process.stdout.close()
-        return Ran(status, output, "".join(f"{line}\n" for line in self.said[1:]).encode())
+        return Ran(status, output, "".join(f"{line}\n" for line in self.errors[1:]).encode())
 
     def is_running(self) -> bool:
         """Whether the program has not ended."""
@@ -201,14 +201,14 @@ class Page(Listener):
 
 class Peer:
     """A connection, line by line: to a port of this machine, or one that is there. If `seat` is a number, it asks for that
-    seat; `said` is the answer."""
+    seat; `reply` is the answer."""
 
     def __init__(self, port: int | socket.socket, seat: int | None = None, patience: float = PATIENCE) -> None:
         own = "127.0.0.1"
         self.socket = port if isinstance(port, socket.socket) else socket.create_connection((own, port), patience)
         self.socket.setsockopt(socket.IPPROTO_TCP, socket.TCP_NODELAY, 1)
         self.file = self.socket.makefile("rb")
-        self.said = None if seat is None else self.ask(f'{{"seat":{seat}}}')
+        self.reply = None if seat is None else self.ask(f'{{"seat":{seat}}}')
 
     def send(self, data: bytes | str) -> None:
         """Sends bytes, or the bytes of a text."""

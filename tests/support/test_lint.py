@@ -49,31 +49,31 @@ def lint(folder: Path, files: dict[str, str]) -> tuple[int, dict[str, int], str]
         (folder / name).write_text(text)
     subprocess.run(["git", "init", "-q", folder], check=True)
     done = ran([LINT, str(folder)])
-    told = done.output.decode()
-    counts = re.findall(r"lint: (\w+): .* (\d+) findings", told)
-    return done.status, {name: int(count) for name, count in counts}, told
+    output = done.output.decode()
+    counts = re.findall(r"lint: (\w+): .* (\d+) findings", output)
+    return done.status, {name: int(count) for name, count in counts}, output
 
 
 def test_nothing_is_found_where_nothing_is_wrong(tmp_path: Path) -> None:
-    status, counts, told = lint(tmp_path, FINE)
-    assert (status, counts) == (0, NOTHING), told
-    assert told.endswith("\n0 findings\n")
-    assert "lint: mypy: 2 files" in told and "lint: shellcheck: 1 files" in told and "lint: tsc: 1 files" in told
+    status, counts, output = lint(tmp_path, FINE)
+    assert (status, counts) == (0, NOTHING), output
+    assert output.endswith("\n0 findings\n")
+    assert "lint: mypy: 2 files" in output and "lint: shellcheck: 1 files" in output and "lint: tsc: 1 files" in output
 
 
 def test_each_fault_is_found(tmp_path: Path) -> None:
     """Each by its program, and no other file is blamed."""
-    status, counts, told = lint(tmp_path, FINE | {name: fault for name, (_, fault) in FAULTS.items()})
-    assert status == 1, told
-    blamed = {(name, path) for path in [*FAULTS, *FINE] for name in counts if is_blamed(path, name, told)}
-    assert blamed >= {(name, path) for path, (name, _) in FAULTS.items()}, told
-    assert not {path for _, path in blamed} & set(FINE), told
-    assert told.endswith(f"\n{sum(counts.values())} findings\n")
+    status, counts, output = lint(tmp_path, FINE | {name: fault for name, (_, fault) in FAULTS.items()})
+    assert status == 1, output
+    blamed = {(name, path) for path in [*FAULTS, *FINE] for name in counts if is_blamed(path, name, output)}
+    assert blamed >= {(name, path) for path, (name, _) in FAULTS.items()}, output
+    assert not {path for _, path in blamed} & set(FINE), output
+    assert output.endswith(f"\n{sum(counts.values())} findings\n")
 
 
-def is_blamed(path: str, name: str, told: str) -> bool:
+def is_blamed(path: str, name: str, output: str) -> bool:
     """Whether a program has a finding in a file."""
-    own = told.partition(f"lint: {name}: ")[0].rpartition("lint: ")[2]
+    own = output.partition(f"lint: {name}: ")[0].rpartition("lint: ")[2]
     return re.search(rf"(^|\s|/){re.escape(path)}(:|\(|$)", own, re.MULTILINE) is not None
 
 

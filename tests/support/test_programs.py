@@ -16,7 +16,7 @@ def test_a_host_begins_again_at_its_port_and_a_page_listens(
 ) -> None:
     one = host("--connections=1")
     with Peer(one.port, 1) as peer:
-        assert peer.said == '{"ok":"seat"}'
+        assert peer.reply == '{"ok":"seat"}'
     assert one.ended() == Ran(0, b"", b"")
     one.begin()
     assert one.is_running() and page().is_running()
@@ -28,10 +28,10 @@ def test_a_private_machine_replies(cam6: str) -> None:
 
 def test_a_session_that_fails_is_shown() -> None:
     sent = ['{"do":"rules"}', "{}", "["]
-    with pytest.raises(AssertionError, match=r"reply 2 of 3 to '\{\}'\n  is     'b'") as told:
+    with pytest.raises(AssertionError, match=r"reply 2 of 3 to '\{\}'\n  is     'b'") as raised:
         assert_replies(sent, ["a", "b", "c"], ["a", "B", "c"])
-    assert str(told.value).endswith('.lines:\n{"do":"rules"}\n{}')
-    file = re.search(r"to be piped into ./cam6 alone, is (.*):$", str(told.value), re.M)
+    assert str(raised.value).endswith('.lines:\n{"do":"rules"}\n{}')
+    file = re.search(r"to be piped into ./cam6 alone, is (.*):$", str(raised.value), re.M)
     assert file and Path(file[1]).read_bytes() == b'{"do":"rules"}\n{}\n'
     with pytest.raises(AssertionError, match="is     nothing"):
         assert_replies(sent, ["a", "b"], ["a", "b", "c"])
@@ -40,8 +40,8 @@ def test_a_session_that_fails_is_shown() -> None:
 
 def test_a_long_line_is_shown_where_it_differs() -> None:
     sent, long = [b"\xff"], "0" * 5000
-    with pytest.raises(AssertionError, match=r"is     \.\. 0+0x0+ \.\.\n  wanted \.\. 0+0y0+ \.\.") as told:
+    with pytest.raises(AssertionError, match=r"is     \.\. 0+0x0+ \.\.\n  wanted \.\. 0+0y0+ \.\.") as raised:
         assert_replies(sent, [f"{long}x{long}"], [f"{long}y{long}"])
-    assert len(str(told.value)) < 1000 and r"\xff" in str(told.value)
+    assert len(str(raised.value)) < 1000 and r"\xff" in str(raised.value)
     with pytest.raises(AssertionError, match=r"is     \.\. 0+'\n  wanted \.\. 0+y'\n"):
         assert_replies(sent, [f"{long}"], [f"{long}y"])

@@ -257,8 +257,8 @@ def error_of(result: Any) -> Optional[BaseException]:
 
     The future's own status is no sign: it changes again if the worker is killed after the result was read.
     """
-    said = result if isinstance(result, tuple) else (result,)
-    return next((error for error in said if isinstance(error, BaseException)), None)
+    errors = result if isinstance(result, tuple) else (result,)
+    return next((error for error in errors if isinstance(error, BaseException)), None)
 
 
 def by_dask(plan: Plan, tasks: Sequence[Task], asked: argparse.Namespace) -> Done:
@@ -317,8 +317,8 @@ def told_times(done: Done, way: str) -> str:
     tasks = len(done.counts)
     each = 1000 * done.seconds * done.workers / tasks
     within = 1000 * done.within / tasks
-    said = f"{way}: {tasks} tasks, {done.workers} at once, {done.seconds:.2f} s"
-    return f"{said}. Each took {each:.1f} ms: {within:.1f} within it, and {each - within:.1f} around it"
+    text = f"{way}: {tasks} tasks, {done.workers} at once, {done.seconds:.2f} s"
+    return f"{text}. Each took {each:.1f} ms: {within:.1f} within it, and {each - within:.1f} around it"
 
 
 def told_counts(plan: Plan, done: Done) -> str:

@@ -23,14 +23,14 @@ KEYS = {"run": "position", "back": "position", "rules": "names", "colours": "col
 
 def wanted(command: dict[str, Any] | None, reply: bytes) -> Any:
     """What a call returns for a command, by a reply of the oracle; or the fields of its fault."""
-    said, word = json.loads(reply), command["do"] if command else ""
-    if "fault" in said:
-        return said
+    value, word = json.loads(reply), command["do"] if command else ""
+    if "fault" in value:
+        return value
     if word == "row":
-        return plain.bits_of(said["bits"])
+        return plain.bits_of(value["bits"])
     if word == "plane":
-        return [plain.bits_of(row) for row in said["rows"]]
-    return load_of(reply) if word == "save" else said[KEYS[word]] if word in KEYS else None
+        return [plain.bits_of(row) for row in value["rows"]]
+    return load_of(reply) if word == "save" else value[KEYS[word]] if word in KEYS else None
 
 
 def called(machine: Any, command: dict[str, Any]) -> Any:
@@ -54,17 +54,17 @@ class Calls(Sessions):
         RuleBasedStateMachine.__init__(self)
         self.calls = cam6.local(program, side_limit=limit)
         self.oracle = self.alone = Alone(limit)
-        self.machine, self.said = self.oracle.machine, [{"do": "rules"}]
+        self.machine, self.sent = self.oracle.machine, [{"do": "rules"}]
         self.asked: list[bytes] = []
         self.way = f"./cam6 alone --side {limit}"
 
     def say(self, line: bytes) -> None:
         """A line by its own call, unless it asks for too many steps. A call may ask for more steps than a line."""
         try:
-            said = read_line(line, is_command)
+            value = read_line(line, is_command)
         except Unclear:
             return
-        command = said if isinstance(said, dict) else None
+        command = value if isinstance(value, dict) else None
         is_long = command is not None and command.get("n", 0) > lines.MOST_STEPS
         reply = None if is_long else self.oracle.short_answer(line, MOST_CELLS)
         if reply is None:

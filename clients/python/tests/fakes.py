@@ -43,9 +43,9 @@ def load_of(reply: bytes) -> bytes:
     return b'{"do":"load","machine":' + reply[len(b'{"machine":') : -len(b',"ok":"save"}')] + b"}"
 
 
-def compact(**said: Any) -> bytes:
+def compact(**fields: Any) -> bytes:
     """A command as a line."""
-    return json.dumps(said, separators=(",", ":")).encode()
+    return json.dumps(fields, separators=(",", ":")).encode()
 
 
 def north(name: str) -> bytes:

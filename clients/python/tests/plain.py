@@ -71,10 +71,10 @@ def lists(cells: Any) -> list[list[int]]:
     return [[int(cell) for cell in row] for row in cells]
 
 
-def value(said: Any) -> Any:
+def value(found: Any) -> Any:
     """An array, or bytes of cells, as lists of numbers. All else stays."""
-    if hasattr(said, "tolist"):
-        return said.tolist()
-    if isinstance(said, list) and said and isinstance(said[0], bytes):
-        return lists(said)
-    return list(said) if isinstance(said, bytes) and not said.startswith(b"{") else said
+    if hasattr(found, "tolist"):
+        return found.tolist()
+    if isinstance(found, list) and found and isinstance(found[0], bytes):
+        return lists(found)
+    return list(found) if isinstance(found, bytes) and not found.startswith(b"{") else found

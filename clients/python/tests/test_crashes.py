@@ -39,7 +39,7 @@ SAVED = lines.blank(LIMIT).replace(b'"' + b"0" * 32, b'"' + b"f" * 32, 1)
 
 def named(word: str, **more: Any) -> st.SearchStrategy[bytes]:
     """A command by strategies for its fields."""
-    return st.builds(lambda **said: compact(do=word, **said), **more)
+    return st.builds(lambda **keys: compact(do=word, **keys), **more)
 
 
 NAMES = st.sampled_from(["R", "S"])

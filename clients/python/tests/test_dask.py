@@ -122,8 +122,8 @@ def test_a_part_whose_program_dies_is_tried_again(cam6: str, shared: list[str], 
 def test_a_part_whose_program_dies_may_not_be_tried_again(shared: list[str], shell_program: Made) -> None:
     done = ensembles.run(shell_program("dying", DYING), "--retries=0", *shared, *SOME)
     assert (done.returncode, done.stdout) == (1, "")
-    told = r"^ensemble.py: [a-z-]+\.seed-\d\..*status -9 \(signal 9\)"
-    assert re.search(told, done.stderr, re.M), done.stderr
+    pattern = r"^ensemble.py: [a-z-]+\.seed-\d\..*status -9 \(signal 9\)"
+    assert re.search(pattern, done.stderr, re.M), done.stderr
 
 
 def test_a_program_does_not_answer(shared: list[str], shell_program: Made) -> None:
@@ -170,7 +170,7 @@ def test_a_computer_is_lost(cam6: str, tmp_path: Path) -> None:
             wait_until(lambda: run.poll() is not None or kept.is_dir() and len(os.listdir(kept)) > 12, 600, 0.01)
             assert run.poll() is None
             os.killpg(lost.pid, signal.SIGKILL)
-            said = run.communicate(timeout=600)[0]
-    assert run.returncode == 0, said
-    assert "equal: 112 counts" in said
-    assert "Dask: 16 tasks, 2 at once" in said
+            output = run.communicate(timeout=600)[0]
+    assert run.returncode == 0, output
+    assert "equal: 112 counts" in output
+    assert "Dask: 16 tasks, 2 at once" in output

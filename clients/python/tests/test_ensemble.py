@@ -90,8 +90,8 @@ RIGHT = {("life", 0): [1, 2], ("life", 1): [3, 4]}
 )
 def test_differences_are_found(counts: dict[Task, list[int]], where: str, plan: Any) -> None:
     right, other = (ensembles.script().Done(dict(each), 1.0, 1.0) for each in (RIGHT, counts))
-    told = ensembles.script().difference(plan, right, other)
-    assert told is None if where is None else where in told
+    sentence = ensembles.script().difference(plan, right, other)
+    assert sentence is None if where is None else where in sentence
 
 
 @pytest.fixture

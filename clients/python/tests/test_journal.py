@@ -63,8 +63,8 @@ def written(made: Journal) -> list[Any]:
         (made.record_commands, [[clear_2]]),
     ]
     states = [state_of(made)]
-    for act, said in entries:
-        act(*said)
+    for act, arguments in entries:
+        act(*arguments)
         states.append(state_of(made))
     made.close()
     return states
@@ -227,8 +227,8 @@ def test_each_command_is_written_before_it_is_sent(path: Path, connected: Connec
 def test_lines_of_any_bytes_are_written() -> None:
     source = random.Random(1)
     for data in [bytes(range(256)), b"", "é€\U0001f600".encode(), *(source.randbytes(50) for _ in range(200))]:
-        said = json.loads(lines.compact(journal.text_of(data)))
-        assert journal.bytes_of(said) == data
+        arguments = json.loads(lines.compact(journal.text_of(data)))
+        assert journal.bytes_of(arguments) == data
 
 
 def test_the_rest_of_a_run() -> None:

@@ -37,14 +37,14 @@ CALLS: list[tuple[Call[Any], dict[str, Any]]] = [
 ]
 
 
-@pytest.mark.parametrize(("call", "said"), CALLS, ids=[said["do"] for _, said in CALLS])
-def test_a_line_says_what_the_arguments_said(call: Call[Any], said: dict[str, Any]) -> None:
+@pytest.mark.parametrize(("call", "want"), CALLS, ids=[want["do"] for _, want in CALLS])
+def test_a_line_says_what_the_arguments_said(call: Call[Any], want: dict[str, Any]) -> None:
     [line] = call.lines
-    assert read_line(line, is_command) == said
+    assert read_line(line, is_command) == want
 
 
 def test_each_command_has_a_line() -> None:
-    assert {said["do"] for _, said in CALLS} == set(COMMANDS)
+    assert {want["do"] for _, want in CALLS} == set(COMMANDS)
 
 
 @pytest.mark.parametrize(

@@ -44,7 +44,10 @@ def test_each_command_by_its_call(cam6: str) -> None:
         *(compact(do="side", side=128), compact(do="set", plane=0, row=3, bits="8" * 32)),
         compact(do="rule", name="B", half="A", hood="N/MARG", minor="&/PHASES", text=BALLS),
         compact(do="cycle", entries=[{"a": "B", "b": "-", "grid": "ODD", "phase": 0}]),
-        *(compact(**said) for said in [*steps, *looks, {"do": "count", "mask": 2}, {"do": "rules"}, {"do": "save"}]),
+        *(
+            compact(**arguments)
+            for arguments in [*steps, *looks, {"do": "count", "mask": 2}, {"do": "rules"}, {"do": "save"}]
+        ),
         *(compact(do="map", colours=[*range(15, -1, -1)]), Plain(128).load_line(), compact(do="clear", plane=0)),
         compact(do="drop", name="B"),
     ):
@@ -182,7 +185,7 @@ P_ENTRY = {"a": "P", "b": "-", "grid": "EVEN", "phase": 0}
 
 
 @pytest.mark.parametrize(
-    ("said", "want"),
+    ("arguments", "want"),
     [
         (["P"], [P_ENTRY]),
         (["Q"], [{**P_ENTRY, "a": "-", "b": "Q"}]),
@@ -192,11 +195,11 @@ P_ENTRY = {"a": "P", "b": "-", "grid": "EVEN", "phase": 0}
         (["P"] * 16, [P_ENTRY] * 16),
     ],
 )
-def test_entries_of_a_cycle(said: list[Any], want: list[Any], machine: Machine) -> None:
+def test_entries_of_a_cycle(arguments: list[Any], want: list[Any], machine: Machine) -> None:
     """They are names, mappings and tuples."""
     machine.rule("P", PARITY, hood="N/VONN")
     machine.rule("Q", ": Q NORTH >PLN2 ;", half="B")
-    machine.cycle(*said)
+    machine.cycle(*arguments)
     assert cycle_of(machine) == want
 
 
@@ -297,15 +300,15 @@ CALLS: dict[str, dict[str, Any]] = {
     **{"clear": {"plane": 0}, "row": {"plane": 0, "row": 0}, "plane": {"plane": 0}, "random": {"plane": 0}},
     **{"run": {"n": 1}, "back": {"n": 1}, "colours": {"row": 0}, "put": {"plane": 0, "cells": [[1]]}},
 }
-PLACES = [(name, said, key) for name, said in CALLS.items() for key in NUMBERS if key in said]
+PLACES = [(name, arguments, key) for name, arguments in CALLS.items() for key in NUMBERS if key in arguments]
 RULE: dict[str, Any] = {"name": "P", "text": PARITY, "half": "A", "hood": "N/VONN", "minor": "&/CENTERS"}
 NO_WORDS = {"half": ["C", "a", "", "AB"], "hood": ["MOORE", ""], "minor": ["CENTERS", ""], "text": ["\udc80"]}
 NO_NAMES = ["", "-", "x" * 25, 'a"b', "a\\b", "a b", "é", "\x7f", "a\n", "\ud800"]
 # A call, what it raises, and arguments of which each raises that.
 Wrong = tuple[str, Kind, list[Any]]
 BAD: list[Wrong] = [
-    *((name, TypeError, [{**said, key: no} for no in NOT_NUMBERS]) for name, said, key in PLACES),
-    *((name, ValueError, [{**said, key: no} for no in NUMBERS[key]]) for name, said, key in PLACES),
+    *((name, TypeError, [{**arguments, key: no} for no in NOT_NUMBERS]) for name, arguments, key in PLACES),
+    *((name, ValueError, [{**arguments, key: no} for no in NUMBERS[key]]) for name, arguments, key in PLACES),
     ("set_side", ValueError, [[n] for n in (0, 1, 64, 127, 1024, 2**70)]),
     ("set_side", TypeError, [[no] for no in NOT_NUMBERS]),
     *(("rule", TypeError, [{**RULE, key: no} for no in NOT_TEXTS]) for key in RULE),
@@ -354,7 +357,7 @@ def refused(target: Any, name: str, arguments: Any, kind: Kind) -> None:
 
 def each(wrong: list[Wrong]) -> list[Any]:
     """Each call with its arguments, as parameters of a test."""
-    every = [(name, said, kind) for name, kind, many in wrong for said in many]
+    every = [(name, arguments, kind) for name, kind, many in wrong for arguments in many]
     return [pytest.param(*one, id=f"{one[0]}-{one[1]!r:.40}-{one[2].__name__}") for one in every]
 
 

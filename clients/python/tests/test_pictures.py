@@ -195,16 +195,16 @@ def options_of(words: Sequence[str]) -> dict[str, Any]:
 def gallery_of(name: str) -> tuple[dict[str, Any], list[str]]:
     """The options of a picture of docs/pictures, and its command lines."""
     first, *lines = (FOLDER / f"{name}.lines").read_text().splitlines()
-    told, side = [], 256
+    commands, side = [], 256
     for line in lines:
         example = (TOP / "examples" / f"{name}.lines").read_text().splitlines() if line == "example" else [line]
         for other in example:
             if other == "picture":
-                told += [f'{{"do":"colours","row":{row}}}' for row in range(side)]
+                commands += [f'{{"do":"colours","row":{row}}}' for row in range(side)]
             else:
                 side = json.loads(other).get("side", side)
-                told.append(other)
-    return options_of(first.removeprefix("#").split()), told
+                commands.append(other)
+    return options_of(first.removeprefix("#").split()), commands
 
 
 GALLERY = sorted(path.stem for path in FOLDER.glob("*.lines"))
@@ -217,8 +217,8 @@ def test_the_gallery_has_pictures() -> None:
 @pytest.mark.parametrize("name", GALLERY)
 def test_a_picture_of_the_gallery(name: str, cam6: str) -> None:
     """It is drawn here from the same lines."""
-    given, told = gallery_of(name)
-    replies = [json.loads(line) for line in private(cam6, told, 256)]
+    given, commands = gallery_of(name)
+    replies = [json.loads(line) for line in private(cam6, commands, 256)]
     cells = [[int(digit, 16) for digit in reply["colours"]] for reply in replies if "colours" in reply]
     picture = pictures.picture(cells, **given)
     assert frames_of((FOLDER / f"{name}.png").read_bytes()) == [(picture.width, picture.height, picture.rgb())]
@@ -242,9 +242,9 @@ def test_beside_cam6_draw(side: int, words: list[str], cam6_draw: str) -> None:
     source = random.Random(29)
     cells = some_cells(source, side, side)
     plane = [[cell & 1 for cell in row] for row in cells]
-    told: list[Any] = [{"colours": "".join(f"{cell:x}" for cell in row), "ok": "colours"} for row in cells]
-    told.append({"ok": "plane", "rows": [plain.digits(row) for row in plane]})
-    replies = "".join(json.dumps(reply, separators=(",", ":")) + "\n" for reply in told).encode()
+    answered: list[Any] = [{"colours": "".join(f"{cell:x}" for cell in row), "ok": "colours"} for row in cells]
+    answered.append({"ok": "plane", "rows": [plain.digits(row) for row in plane]})
+    replies = "".join(json.dumps(reply, separators=(",", ":")) + "\n" for reply in answered).encode()
     given = options_of(words)
     drawn = ran([cam6_draw, "--ppm", *words], replies)
     want = pictures.picture(cells, **given).ppm() + pictures.picture(plane, **given).ppm()

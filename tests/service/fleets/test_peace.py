@@ -42,16 +42,16 @@ def test_a_fleet_is_made_in_any_thread() -> None:
 def test_haproxy_accepts_each_file_as_it_stands(fleet: Fleet, file: str) -> None:
     env = {key: value for key, value in os.environ.items() if not key.startswith("CAM6_")}
     env |= {key: fleet.values[key] for key in ("CAM6_CERTIFICATES", "CAM6_LUA")}
-    said = subprocess.run(["haproxy", "-c", "-q", "-f", DEPLOY / file], capture_output=True, env=env, check=False)
-    assert (said.returncode, said.stderr.decode()) == (0, "")
+    done = subprocess.run(["haproxy", "-c", "-q", "-f", DEPLOY / file], capture_output=True, env=env, check=False)
+    assert (done.returncode, done.stderr.decode()) == (0, "")
 
 
 @pytest.mark.parametrize("name", ["cam6", "cam6_web"])
 def test_systemd_accepts_each_unit(request: pytest.FixtureRequest, fleet: Fleet, tmp_path: Path, name: str) -> None:
     text, unit = (DEPLOY / f"{name}@.service").read_text(encoding="utf-8"), tmp_path / f"{name}@7001.service"
     unit.write_text(text.replace(f"/opt/cam6/{name} ", f"{request.getfixturevalue(name)} "), encoding="utf-8")
-    said = subprocess.run(["systemd-analyze", "verify", str(unit)], capture_output=True, check=False)
-    assert (said.returncode, [line for line in said.stderr.decode().splitlines() if name in line]) == (0, [])
+    done = subprocess.run(["systemd-analyze", "verify", str(unit)], capture_output=True, check=False)
+    assert (done.returncode, [line for line in done.stderr.decode().splitlines() if name in line]) == (0, [])
     # It may find 1.5 of 10 open.
     words = ["systemd-analyze", "security", "--offline=true", "--threshold=15", str(unit)]
     assert subprocess.run(words, capture_output=True, check=False).returncode == 0, "the unit is exposed to much"

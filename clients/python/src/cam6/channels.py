@@ -176,13 +176,13 @@ class Process(Channel):
         super().__init__()
         self._deadline = deadline
         self._ended = "This program was not started."
-        self._told: IO[bytes] = tempfile.TemporaryFile()
+        self._errors: IO[bytes] = tempfile.TemporaryFile()
         try:
             self._process = subprocess.Popen(
-                words, stdin=subprocess.PIPE, stdout=subprocess.PIPE, stderr=self._told, bufsize=0
+                words, stdin=subprocess.PIPE, stdout=subprocess.PIPE, stderr=self._errors, bufsize=0
             )
         except OSError as cause:
-            self._told.close()
+            self._errors.close()
             raise Lost(why_not_started(words[0], cause)) from cause
         assert self._process.stdin and self._process.stdout
         self._to, self._from = self._process.stdin, self._process.stdout
@@ -216,17 +216,17 @@ class Process(Channel):
         except subprocess.TimeoutExpired:
             self._process.kill()
             self._process.wait()
-        self._told.close()
+        self._errors.close()
 
     def _why_ended(self) -> str:
         try:
             status = self._process.wait(TO_END)
         except subprocess.TimeoutExpired:
             return "The program closed its output."
-        self._told.seek(0)
-        told = self._told.read(2000).decode("utf-8", "replace").strip()
+        self._errors.seek(0)
+        text = self._errors.read(2000).decode("utf-8", "replace").strip()
         why = STATUSES.get(status, f"signal {-status}" if status < 0 else "")
-        return f"The program ended with status {status}" + (f" ({why})" if why else "") + (f": {told}" if told else ".")
+        return f"The program ended with status {status}" + (f" ({why})" if why else "") + (f": {text}" if text else ".")
 
 
 def why_not_started(program: str, cause: OSError) -> str:

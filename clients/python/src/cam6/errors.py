@@ -282,11 +282,11 @@ FAULTS: dict[int, type[Fault]] = {kind.number: kind for kind in Fault.__subclass
 def fault_of(reply: bytes, line: bytes) -> Fault:
     """The exception of a reply that refuses a line. Raises `Cam6Error` if the reply refuses nothing."""
     try:
-        said = json.loads(reply)
-        kind = FAULTS[said["fault"]]
+        value = json.loads(reply)
+        kind = FAULTS[value["fault"]]
     except (ValueError, KeyError, TypeError, RecursionError):
         raise Cam6Error(f"This is no reply of cam6: {shortened(reply)}. Does cam6 really run there?") from None
-    return kind(said, line)
+    return kind(value, line)
 
 
 @lru_cache(maxsize=None)
@@ -308,10 +308,10 @@ def shortened(data: bytes, most: int = 80) -> str:
 def command_of(line: bytes) -> dict[str, Any]:
     """The object that a line says. It is empty if there is none, or if it is nested too deep for Python."""
     try:
-        said = json.loads(line)
+        value = json.loads(line)
     except (ValueError, RecursionError):
         return {}
-    return said if isinstance(said, dict) else {}
+    return value if isinstance(value, dict) else {}
 
 
 def shown_token(text: object, token: int) -> str:

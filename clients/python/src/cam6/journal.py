@@ -105,28 +105,28 @@ class Journal:
             )
         return whole
 
-    def _take(self, said: dict[str, Any], is_first: bool) -> None:
+    def _take(self, entry: dict[str, Any], is_first: bool) -> None:
         if is_first:
-            if said["journal"] != 1 or said["limit"] not in (128, 256, 512):
+            if entry["journal"] != 1 or entry["limit"] not in (128, 256, 512):
                 raise ValueError
-            self.limit, self.load = int(said["limit"]), bytes_of(said["load"])
+            self.limit, self.load = int(entry["limit"]), bytes_of(entry["load"])
             if not self.load.startswith(lines.LOAD_HEAD):
                 raise ValueError
-            self.tail = [(bytes_of(command), bytes_of(reply)) for command, reply in said.get("done", [])]
-            self.pending.extend(bytes_of(command) for command in said.get("ask", []))
-            self.number = int(said["number"]) + len(self.pending)
-        elif "ask" in said:
-            self.pending.append(bytes_of(said["ask"]))
+            self.tail = [(bytes_of(command), bytes_of(reply)) for command, reply in entry.get("done", [])]
+            self.pending.extend(bytes_of(command) for command in entry.get("ask", []))
+            self.number = int(entry["number"]) + len(self.pending)
+        elif "ask" in entry:
+            self.pending.append(bytes_of(entry["ask"]))
             self.number += 1
-        elif "part" in said:
-            self._apply_part(bytes_of(said["part"]), bytes_of(said["reply"]))
-        elif "done" in said:
+        elif "part" in entry:
+            self._apply_part(bytes_of(entry["part"]), bytes_of(entry["reply"]))
+        elif "done" in entry:
             # A command that changed the machine, of a file that an earlier version wrote anew.
-            self.tail.append((bytes_of(said["done"]), bytes_of(said["reply"])))
-        elif "drop" in said:
-            self._apply_drop(int(said["drop"]))
+            self.tail.append((bytes_of(entry["done"]), bytes_of(entry["reply"])))
+        elif "drop" in entry:
+            self._apply_drop(int(entry["drop"]))
         else:
-            self._apply_reply(None if said["reply"] is None else bytes_of(said["reply"]))
+            self._apply_reply(None if entry["reply"] is None else bytes_of(entry["reply"]))
 
     # What happens, in memory
 

@@ -192,7 +192,7 @@ def states() -> Call[Array]:
 
 def rule(name: Any, text: Any, half: Any, hood: Any, minor: Any) -> Call[None]:
     """Defines a rule."""
-    said = {
+    command = {
         "do": "rule",
         "name": rule_name(name),
         "half": one_of(half, "half", "AB"),
@@ -200,7 +200,7 @@ def rule(name: Any, text: Any, half: Any, hood: Any, minor: Any) -> Call[None]:
         "minor": one_of(minor, "minor", MINORS),
         "text": text_of(text, "text"),
     }
-    return Call([compact(said)], b'{"ok":"rule"}', nothing)
+    return Call([compact(command)], b'{"ok":"rule"}', nothing)
 
 
 def drop(name: Any) -> Call[None]:
@@ -238,10 +238,10 @@ def entry_of(entry: Any, halves: Mapping[str, str]) -> dict[str, Any]:
 
 def cycle(entries: Sequence[Any], halves: Mapping[str, str]) -> Call[None]:
     """Says what each step does."""
-    said = [entry_of(entry, halves) for entry in entries]
-    if not 1 <= len(said) <= 16:
-        raise ValueError(f"a cycle has 1 to 16 entries, not {len(said)}")
-    return Call([compact({"do": "cycle", "entries": said})], b'{"ok":"cycle"}', nothing)
+    spelled = [entry_of(entry, halves) for entry in entries]
+    if not 1 <= len(spelled) <= 16:
+        raise ValueError(f"a cycle has 1 to 16 entries, not {len(spelled)}")
+    return Call([compact({"do": "cycle", "entries": spelled})], b'{"ok":"cycle"}', nothing)
 
 
 def steps(word: str, n: Any) -> Call[int]:
@@ -270,10 +270,10 @@ def colour_map(colours: Any) -> Call[None]:
     """Gives each state a colour."""
     if isinstance(colours, (str, bytes)) or not isinstance(colours, Iterable):
         raise TypeError(f"colours are sixteen numbers from 0 to 15, not {colours!r:.60}")
-    said = [number(colour, "a colour", 0, 15) for colour in colours]
-    if len(said) != 16:
-        raise ValueError(f"colours are sixteen numbers from 0 to 15, not {len(said)}")
-    return Call([compact({"do": "map", "colours": said})], b'{"ok":"map"}', nothing)
+    numbers = [number(colour, "a colour", 0, 15) for colour in colours]
+    if len(numbers) != 16:
+        raise ValueError(f"colours are sixteen numbers from 0 to 15, not {len(numbers)}")
+    return Call([compact({"do": "map", "colours": numbers})], b'{"ok":"map"}', nothing)
 
 
 def colours(row: Any, side: int) -> Call[str]:
@@ -332,9 +332,9 @@ def ask(line: Any) -> Call[dict[str, Any]]:
     data = _line_of(line)
     if b"\n" in data:
         raise ValueError("a line ends where its LF stands, so it has none inside")
-    said = command_of(data)
-    side = {"side": said.get("side"), "load": None}.get(str(said.get("do")))
-    if said.get("do") == "load":
+    command = command_of(data)
+    side = {"side": command.get("side"), "load": None}.get(str(command.get("do")))
+    if command.get("do") == "load":
         side = side_of_load(data)
     return Call([data], b"{", lambda replies: dict(json.loads(replies[0])), side if type(side) is int else None)
 
@@ -365,7 +365,7 @@ def is_fault(reply: bytes) -> bool:
 def blank(side: int) -> bytes:
     """The line that loads a machine as new as one of this side can be."""
     rows = [["0" * (side // 4)] * side] * 4
-    said = {
+    machine = {
         "colours": list(range(16)),
         "cycle": [],
         "planes": rows,
@@ -374,4 +374,4 @@ def blank(side: int) -> bytes:
         "side": side,
         "version": 2,
     }
-    return LOAD_HEAD + compact(said) + LOAD_TAIL
+    return LOAD_HEAD + compact(machine) + LOAD_TAIL

@@ -230,10 +230,10 @@ class Machine:
         self._now(self._cycle(entries))
 
     def _cycle(self, entries: Iterable[Any]) -> Call[None]:
-        said: list[Any] = []
+        spelled: list[Any] = []
         for entry in entries:
-            said += self._entries_of(entry) if hasattr(entry, "cycle") else [entry]
-        return lines.cycle(said, self._halves)
+            spelled += self._entries_of(entry) if hasattr(entry, "cycle") else [entry]
+        return lines.cycle(spelled, self._halves)
 
     def _entries_of(self, value: Any) -> list[dict[str, Any]]:
         """The entries of a rule's own cycle."""

@@ -410,12 +410,12 @@ def emulated(
     if states > 4:
         raise PatternError(f"the pattern's blocks have {states} states, and a half has room for four")
     is_open = ":T" not in pattern.rule and outside is None
-    told = _rule_of(pattern, rule, states, is_open)
+    table = _rule_of(pattern, rule, states, is_open)
     filling = outside if outside is not None else 0
     if is_open:
-        filling = 3 if ">PLNA" in told.text else 2
+        filling = 3 if ">PLNA" in table.text else 2
     none = tuple(bytes(int(not state) for state in row) for row in pattern.rows)
-    return Emulated(pattern.width, pattern.height, rows, none, corner, size, told, filling)
+    return Emulated(pattern.width, pattern.height, rows, none, corner, size, table, filling)
 
 
 def _corner(pattern: Pattern) -> Tuple[int, int]:
