@@ -23,7 +23,7 @@ import { nameOfTab } from './journal.js';
 
 /**
  * @typedef {import('./gallery.js').Entry} Entry
- * @typedef {{title: string, lookFor: string, name?: string}} Shown what is said of a machine
+ * @typedef {{title: string, lookFor: string, name?: string}} Shown what the page shows of a machine
  */
 
 const DIVERGED = 'A command that was done again had another reply. The page shows what the machine has now.';

@@ -320,9 +320,9 @@ export class Controls {
     const steps = Math.abs(pace.speed);
     const rounded = steps < 10 ? Number(steps.toFixed(1)) : Math.round(steps);
     const speed = steps === 0 ? 'stands still' : `${grouped(rounded)} steps/s`;
-    const said = reached !== null ? `${grouped(reached)} of ${speed}` : this.dial < 0 ? `back, ${speed}` : speed;
-    setText(at('dial-says'), said);
+    const text = reached !== null ? `${grouped(reached)} of ${speed}` : this.dial < 0 ? `back, ${speed}` : speed;
+    setText(at('dial-says'), text);
     at('dial-says').title = reached !== null ? "The machine can't keep up with the speed." : '';
-    this.fields.dial.setAttribute('aria-valuetext', said);
+    this.fields.dial.setAttribute('aria-valuetext', text);
   }
 }

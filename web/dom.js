@@ -161,9 +161,9 @@ export function setPressed(button, isPressed) {
  * @param {string|number} text
  */
 export function setText(node, text) {
-  const said = String(text);
-  if (node.textContent !== said) {
-    node.textContent = said;
+  const content = String(text);
+  if (node.textContent !== content) {
+    node.textContent = content;
   }
 }
 
@@ -172,7 +172,7 @@ export function setText(node, text) {
  * @param {string} text
  */
 export function announce(text) {
-  setText(at('said'), text);
+  setText(at('announcement'), text);
 }
 
 /**

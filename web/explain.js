@@ -7,14 +7,14 @@ import { bitsOf, evaluate, namesOf, tokenAt } from './forth.js';
  * @typedef {import('./lines.js').OneWay} OneWay
  * @typedef {import('./lines.js').Refusal} Refusal
  *
- * @typedef {{title: string, happened: string, todo: string}} Said
+ * @typedef {{title: string, happened: string, todo: string}} Explanation
  * @typedef {object} Known what the page knows of the command that was refused
  * @property {Body} [rule] the rule that was to be defined
  * @property {import('./lines.js').Rule[]} [rules] the machine's rules
  * @property {import('./lines.js').Entry[]} [entries] the machine's cycle
  *
  * @typedef {{state: number, cells: number[][]}} Block a state of a block, and its cells as two rows of two
- * @typedef {object} More what is said besides
+ * @typedef {object} More what an explanation may have besides
  * @property {number} number
  * @property {import('./forth.js').Place & {number: number}} [token]
  * @property {Block[]} [blocks] the two that become one
@@ -143,45 +143,45 @@ function whereItStops(address, rule) {
 
 /**
  * @param {OneWay} answer
- * @param {Said} said what is said of an unknown cause
+ * @param {Explanation} explanation that of the fault, whatever its cause
  * @param {Known} known
- * @returns {Said}
+ * @returns {Explanation}
  */
-function undoingSaid(answer, said, known) {
+function explainOneWay(answer, explanation, known) {
   const cause = CAUSES[answer.cause];
   const name = nameOf(answer, known);
   const rule = name === undefined ? `The rule of half ${answer.half}` : `Rule ${name} of half ${answer.half}`;
-  return cause === undefined ? said : {
-    title: said.title,
+  return cause === undefined ? explanation : {
+    title: explanation.title,
     happened: `${rule} in entry ${answer.entry} can't be undone. ${cause.happened}`,
     todo: cause.todo,
   };
 }
 
 /**
- * A fault in words.
+ * Explains a fault: its title, what happened and what to do.
  * @param {Refusal} answer
- * @param {Record<number, Said>} faults those of faults.js
+ * @param {Record<number, Explanation>} faults those of faults.js
  * @param {Known} [known]
- * @returns {Said & More}
+ * @returns {Explanation & More}
  */
 export function sentenceOf(answer, faults, known = {}) {
   const number = answer.fault;
   const unknown = { title: `fault ${number}`, happened: `The machine refused the command with fault ${number}.`, todo: '' };
   const { title, happened, todo } = number === 0 ? LEFT_OUT : faults[number] ?? unknown;
-  /** @type {Said & More} */
-  const said = { number, title, happened, todo };
+  /** @type {Explanation & More} */
+  const explanation = { number, title, happened, todo };
   if ('cause' in answer) {
-    Object.assign(said, undoingSaid(answer, said, known));
+    Object.assign(explanation, explainOneWay(answer, explanation, known));
     const blocks = blocksOf(answer);
     const meeting = meetingOf(answer, known);
-    Object.assign(said, blocks === null ? {} : { blocks }, meeting === null ? {} : { meeting });
+    Object.assign(explanation, blocks === null ? {} : { blocks }, meeting === null ? {} : { meeting });
   }
   if (answer.token !== undefined) {
-    said.token = { number: answer.token, ...tokenAt(known.rule?.text ?? '', answer.token) };
+    explanation.token = { number: answer.token, ...tokenAt(known.rule?.text ?? '', answer.token) };
   }
   if (answer.address !== undefined) {
-    said.happened += whereItStops(answer.address, known.rule);
+    explanation.happened += whereItStops(answer.address, known.rule);
   }
-  return said;
+  return explanation;
 }

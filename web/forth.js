@@ -106,8 +106,8 @@ function sentenceOfName(name, half) {
  */
 export function namesOf(hood, minor, half) {
   /** @type {(name: string, bit: number) => {name: string, bit: number, sentence: string}} */
-  const said = (name, bit) => ({ name, bit, sentence: sentenceOfName(name, half) });
-  return [...HOODS[hood].map(said), ...MINORS[minor].map((name, i) => said(name, 10 + i))];
+  const named = (name, bit) => ({ name, bit, sentence: sentenceOfName(name, half) });
+  return [...HOODS[hood].map(named), ...MINORS[minor].map((name, i) => named(name, 10 + i))];
 }
 
 /** @typedef {{word: string, before?: string, after?: string, sentence: string}} Word */

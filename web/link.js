@@ -30,7 +30,7 @@ const SAVE = lineOf(save());
  * @property {number} [losses]
  *
  * @typedef {'connecting'|'playing back'|'ready'|'lost'|'full'} State
- * @typedef {object} Told what a link tells its owner
+ * @typedef {object} Listener what a link calls when something happens
  * @property {(state: State, text: string) => void} state
  * @property {(reply: string) => void} restored with the reply to `save` of the machine that is there
  * @property {(line: string, wanted: string, got: string) => void} diverged
@@ -63,7 +63,7 @@ const sentenceOfLoss = reason =>
 export class Link {
   #how;
   #journal;
-  #told;
+  #listener;
   /** @type {Pending[]} */
   #pending = [];
   /** @type {Host|null} */
@@ -75,12 +75,12 @@ export class Link {
   /**
    * @param {How} how
    * @param {import('./journal.js').Journal} journal
-   * @param {Told} told
+   * @param {Listener} listener
    */
-  constructor(how, journal, told) {
+  constructor(how, journal, listener) {
     this.#how = how;
     this.#journal = journal;
-    this.#told = told;
+    this.#listener = listener;
     /** @type {At|null} */
     this.at = null;
   }
@@ -147,7 +147,7 @@ export class Link {
       }
     }
     asked.answered(text);
-    this.#told.answered();
+    this.#listener.answered();
   }
 
   /** Connects, and connects again whenever the connection is lost, until `stop`. */
@@ -180,7 +180,7 @@ export class Link {
   /** @param {State} state @param {string} text */
   #tell(state, text) {
     if (!this.#isStopped) {
-      this.#told.state(state, text);
+      this.#listener.state(state, text);
     }
   }
 
@@ -242,7 +242,7 @@ export class Link {
     const saved = await host.ask(SAVE);
     played.forEach((entry, i) => this.#compare(entry, replies[i]));
     journal.checkpoint(loadLineOf(saved), played.at(-1)?.number ?? 0);
-    this.#told.restored(saved);
+    this.#listener.restored(saved);
     return true;
   }
 
@@ -251,7 +251,7 @@ export class Link {
     if (entry.reply === null) {
       this.#journal.answer(entry, reply);
     } else if (entry.reply !== reply) {
-      this.#told.diverged(entry.line, entry.reply, reply);
+      this.#listener.diverged(entry.line, entry.reply, reply);
     }
   }
 }

@@ -1,4 +1,4 @@
-// The panels at the right: their tabs, and what is said about the machine that is shown.
+// The panels at the right: their tabs, and facts about the machine that is shown.
 
 import { all, at, element, grouped, make, say, setText } from './dom.js';
 import { cssOf, planesOf } from './screen.js';
@@ -70,13 +70,13 @@ export class About {
     }
   }
 
-  /** What is said of a cycle that can be undone. */
+  /** The text on a cycle that can be undone. */
   undoes() {
     return make('div', { className: 'card' }, say('strong', 'Time can run back.'), ' Back undoes each step exactly.');
   }
 
   /**
-   * What is said of a cycle that can't be undone.
+   * The text on a cycle that can't be undone.
    * @param {import('./lines.js').Refusal} answer
    */
   forgets(answer) {

@@ -117,17 +117,17 @@ export class Tools {
 
   /** How dense random cells are, and a button that fills the torus with them. */
   densityOptions() {
-    const said = make('output', { textContent: `${Math.round(100 * this.density)} %` });
+    const output = make('output', { textContent: `${Math.round(100 * this.density)} %` });
     const range = make('input', { id: 'density', type: 'range', min: '1', max: '99', value: `${100 * this.density}` });
     range.addEventListener('input', () => {
       this.density = Number(range.value) / 100;
-      said.textContent = `${range.value} %`;
+      output.textContent = `${range.value} %`;
     });
     const all = makeButton({ textContent: 'Fill the torus', id: 'random-all' }, () => {
       const end = this.machine.side - 1;
       this.change(planes => this.scatter(planes, [0, 0], [end, end], Date.now()));
     });
-    return [make('label', {}, 'Density', range, said), all];
+    return [make('label', {}, 'Density', range, output), all];
   }
 
   /**
@@ -263,8 +263,8 @@ export class Tools {
       return;
     }
     const mask = this.machine.side - 1;
-    const said = place && `(${place[0] & mask}, ${place[1] & mask}) state ${this.machine.planes.get(...place)}`;
-    at('where').textContent = said ?? '';
+    const text = place && `(${place[0] & mask}, ${place[1] & mask}) state ${this.machine.planes.get(...place)}`;
+    at('where').textContent = text ?? '';
   }
 
   /**

@@ -11,9 +11,9 @@ import { inRepository } from './repository.mjs';
 const { commandOf, lineOf } = lines;
 
 test('the palette is that of the pictures', () => {
-  const said = /PALETTE = \(\s*"([0-9a-f ]+)"/.exec(inRepository('tests/oracle/palette.py'));
+  const found = /PALETTE = \(\s*"([0-9a-f ]+)"/.exec(inRepository('tests/oracle/palette.py'));
   const spelled = PALETTE.map(light => light.map(part => part.toString(16).padStart(2, '0')).join(''));
-  assert.deepEqual(spelled, said?.[1].split(' '));
+  assert.deepEqual(spelled, found?.[1].split(' '));
 });
 
 test('pixels have the lights of their states, of the planes that are shown', () => {

@@ -20,8 +20,8 @@ test('a connection that ends rejects what waits, once, and tells why', async () 
   const net = new FakeNet();
   const host = await Host.open(net.urlOf(0), net.WebSocket);
   /** @type {(number|string)[]} */
-  const told = [];
-  host.onLost(lost => told.push(lost.code));
+  const losses = [];
+  host.onLost(lost => losses.push(lost.code));
   const asked = [host.ask('{"do":"rules"}'), host.ask('{"do":"rules"}')];
   net.cutAll();
   for (const one of asked) {
@@ -29,8 +29,8 @@ test('a connection that ends rejects what waits, once, and tells why', async () 
   }
   await assert.rejects(host.ask('{"do":"rules"}'), Lost);
   host.close();
-  host.onLost(lost => told.push(lost.reason));
-  assert.deepEqual(told, [1001, 'the host is gone']);
+  host.onLost(lost => losses.push(lost.reason));
+  assert.deepEqual(losses, [1001, 'the host is gone']);
 });
 
 test('a host that is not there, and an answer that nobody asked for', async () => {
@@ -73,28 +73,28 @@ test('a seat is looked for from the preferred one on, then host by host', async 
 test('commands take turns, and wait for the frames that are under way', async () => {
   const queue = new Queue();
   /** @type {string[]} */
-  const said = [];
+  const events = [];
   /** @param {string} name */
-  const frame = name => queue.frame(async () => { said.push(name); await later(); said.push(`${name} done`); });
+  const frame = name => queue.frame(async () => { events.push(name); await later(); events.push(`${name} done`); });
   const frames = [frame('f1'), frame('f2')];
   assert.equal(frame('f3'), null);
   assert.equal(queue.framesUnderWay, 2);
   const first = queue.command(async () => {
-    said.push('c1');
+    events.push('c1');
     assert.equal(frame('f6'), null, 'no frame beside a command');
     await later();
     throw new Error('no');
   });
-  const second = queue.command(async () => { said.push('c2'); return 2; });
+  const second = queue.command(async () => { events.push('c2'); return 2; });
   assert.equal(frame('f4'), null);
   await assert.rejects(first, { message: 'no' });
   assert.equal(await second, 2);
   assert.equal(queue.isIdle, true);
   await Promise.all(frames);
-  assert.deepEqual(said, ['f1', 'f2', 'f1 done', 'f2 done', 'c1', 'c2']);
+  assert.deepEqual(events, ['f1', 'f2', 'f1 done', 'f2 done', 'c1', 'c2']);
   assert.notEqual(frame('f5'), null);
   await queue.idle();
-  assert.equal(said.at(-1), 'f5 done');
+  assert.equal(events.at(-1), 'f5 done');
 });
 
 test('a frame that fails makes way', async () => {

@@ -167,7 +167,7 @@ test('whenever the page ends, what is in the storage is a machine that it had', 
   assert.ok(snapshots > 400);
 });
 
-test('a full storage is said; what it has is a front of the journal, and later saves are tried again', () => {
+test('a full storage is reported; what it has is a prefix of the journal, and later saves are tried again', () => {
   const storage = new FakeStorage(1200);
   const journal = journalIn(storage);
   journal.checkpoint(saved(0));

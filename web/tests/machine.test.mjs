@@ -135,7 +135,7 @@ for (const { name, netOf } of [{ name: 'a machine of the page', netOf: privateNe
         const net = netOf();
         net.cutAt(at, when);
         const machine = machineOf(net);
-        machine.on('diverged', told => assert.fail(`diverged: ${JSON.stringify(told)}`));
+        machine.on('diverged', detail => assert.fail(`diverged: ${JSON.stringify(detail)}`));
         await machine.start();
         await session(machine);
         machine.stop();
@@ -291,7 +291,7 @@ test('a machine that is larger than a host allows is kept, and another host is t
   /** @type {{state: string, text: string}[]} */
   const texts = [];
   let tries = 0;
-  machine.on('state', told => texts.push(told));
+  machine.on('state', detail => texts.push(detail));
   const back = machineOf(net, { storage: null });
   back.stop();
   net.cutAll();
@@ -332,15 +332,15 @@ test('a host that answers otherwise when commands are played again is told of', 
   await machine.setUp(ECHO_COMMANDS);
   await machine.run(1);
   /** @type {{line: string, wanted: string, got: string}[]} */
-  const told = [];
-  machine.on('diverged', detail => told.push(detail));
+  const messages = [];
+  machine.on('diverged', detail => messages.push(detail));
   const { do_run } = PlainMachine.prototype;
   /** @param {{n: number}} command */
   PlainMachine.prototype.do_run = function run({ n }) { return do_run.call(this, { n: n + 1 }); };
   net.cutAll();
   await machine.save();
   PlainMachine.prototype.do_run = do_run;
-  assert.deepEqual(told, [{ line: '{"do":"run","n":1}', wanted: '{"ok":"run","position":1}', got: '{"ok":"run","position":0}' }]);
+  assert.deepEqual(messages, [{ line: '{"do":"run","n":1}', wanted: '{"ok":"run","position":1}', got: '{"ok":"run","position":0}' }]);
   isSame(machine, net.machine);
   machine.stop();
 });
@@ -550,10 +550,10 @@ test('a stroke that a lost connection interrupts is shown as the machine has it'
   }
 });
 
-test('a host that is gone is said, with what the host said, and the page goes on after it is back', async () => {
+test('a host that is gone is reported with its reason, and the page goes on after it is back', async () => {
   const net = new FakeNet();
   /** @type {string[]} */
-  const told = [];
+  const messages = [];
   /** @type {number[]} */
   const waits = [];
   const machine = machineOf(net, {
@@ -562,7 +562,7 @@ test('a host that is gone is said, with what the host said, and the page goes on
       net.isUp = waits.length >= 8;
     },
   });
-  machine.on('state', ({ state, text }) => told.push(`${state}: ${text}`));
+  machine.on('state', ({ state, text }) => messages.push(`${state}: ${text}`));
   await machine.start();
   await machine.setUp(ECHO_COMMANDS);
   net.isUp = false;
@@ -570,8 +570,8 @@ test('a host that is gone is said, with what the host said, and the page goes on
   await machine.run(2);
   assert.deepEqual(waits, [200, 400, 800, 1600, 3200, 5000, 5000, 5000]);
   const lost = 'lost: The connection is lost: the host is gone. The page tries again. Nothing of your machine is lost.';
-  assert.equal(told.filter(text => text === lost).length, 8);
-  assert.deepEqual(told.slice(-3).map(text => text.split(':')[0]), ['connecting', 'playing back', 'ready']);
+  assert.equal(messages.filter(text => text === lost).length, 8);
+  assert.deepEqual(messages.slice(-3).map(text => text.split(':')[0]), ['connecting', 'playing back', 'ready']);
   assert.equal(machine.count, 2);
   machine.stop();
 });

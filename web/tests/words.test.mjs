@@ -16,7 +16,7 @@ import { inRepository, urlOf } from './repository.mjs';
  * @typedef {{rules: import('../lines.js').Rule[], entries: import('../lines.js').Entry[]}} Example
  */
 
-/** @type {Record<number, import('../explain.js').Said>} */
+/** @type {Record<number, import('../explain.js').Explanation>} */
 const FAULTS = {};
 for (const error of JSON.parse(inRepository('docs/errors.json')).errors) {
   FAULTS[error.number] = { title: error.title, happened: error.happened, todo: error.do };
@@ -44,12 +44,12 @@ function exampleOf(name) {
 test('tokens are counted with those of comments', () => {
   const text = `: R 0 { ${'0 '.repeat(2048)}} ;`;
   assert.deepEqual(tokenAt(text, 2052), { text: '0', start: text.lastIndexOf('0'), end: text.lastIndexOf('0') + 1, isComment: false });
-  const said = '( of one: ) \t: P ( x (y)\r\nCENTER FOO ; ( no end';
-  assert.deepEqual(tokens(said).map(token => token.text),
+  const source = '( of one: ) \t: P ( x (y)\r\nCENTER FOO ; ( no end';
+  assert.deepEqual(tokens(source).map(token => token.text),
     ['(', 'of', 'one:', ')', ':', 'P', '(', 'x', '(y)', 'CENTER', 'FOO', ';', '(', 'no', 'end']);
-  assert.deepEqual(tokens(said).filter(token => !token.isComment).map(token => token.text), [':', 'P', 'CENTER', 'FOO', ';']);
-  const { start, end } = tokenAt(said, 11);
-  assert.equal(said.slice(start, end), 'FOO');
+  assert.deepEqual(tokens(source).filter(token => !token.isComment).map(token => token.text), [':', 'P', 'CENTER', 'FOO', ';']);
+  const { start, end } = tokenAt(source, 11);
+  assert.equal(source.slice(start, end), 'FOO');
   assert.deepEqual(tokenAt(': P CENTER', 4), { text: '', start: 10, end: 10 });
   assert.deepEqual(tokenAt(': P CENTER', 0), { text: '', start: 0, end: 10 });
   assert.deepEqual(tokens(' \n'), []);
@@ -169,11 +169,11 @@ test('a fault 64 names the rule and its cause, and shows what both blocks become
   const known = { rules: [rule], entries: [{ a: 'AND', b: '-', grid: 'EVEN', phase: 0 }] };
   /** @type {import('../lines.js').Refusal} */
   const answer = { cause: 'meeting', entry: 0, fault: 64, half: 'A', phase: 0, states: [0, 1] };
-  const said = sentenceOf(answer, FAULTS, known);
-  assert.equal(said.happened, "Rule AND of half A in entry 0 can't be undone. Two states of a block become one.");
-  assert.deepEqual(said.blocks?.map(({ cells }) => cells), [[[0, 0], [0, 0]], [[1, 0], [0, 0]]]);
-  assert.deepEqual(said.meeting, { state: 0, cells: [[0, 0], [0, 0]] });
-  assert.equal(said.title, FAULTS[64].title);
+  const explanation = sentenceOf(answer, FAULTS, known);
+  assert.equal(explanation.happened, "Rule AND of half A in entry 0 can't be undone. Two states of a block become one.");
+  assert.deepEqual(explanation.blocks?.map(({ cells }) => cells), [[[0, 0], [0, 0]], [[1, 0], [0, 0]]]);
+  assert.deepEqual(explanation.meeting, { state: 0, cells: [[0, 0], [0, 0]] });
+  assert.equal(explanation.title, FAULTS[64].title);
   const hood = sentenceOf({ cause: 'hood', entry: 3, fault: 64, half: 'B' }, FAULTS);
   assert.equal(hood.happened, "The rule of half B in entry 3 can't be undone. Its neighbourhood has no blocks.");
   assert.equal('blocks' in hood, false);
@@ -181,8 +181,8 @@ test('a fault 64 names the rule and its cause, and shows what both blocks become
 
 test('each fault has its sentence, and texts their tokens and addresses', () => {
   for (const number of Object.keys(FAULTS).map(Number).filter(number => number > 0)) {
-    const said = sentenceOf({ fault: number }, FAULTS);
-    assert.ok(said.happened.length > 10 && said.todo.length > 10 && said.title.length > 3);
+    const explanation = sentenceOf({ fault: number }, FAULTS);
+    assert.ok(explanation.happened.length > 10 && explanation.todo.length > 10 && explanation.title.length > 3);
   }
   const rule = { half: 'A', hood: 'N/VONN', minor: '&/CENTERS', text: ': R NORTHEAST >PLN0 ;' };
   assert.deepEqual(sentenceOf({ fault: 20, token: 3 }, FAULTS, { rule }).token,
