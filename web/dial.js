@@ -118,8 +118,8 @@ export class FlashMeter {
   /** @type {number|null} */
   #last = null;
   #direction = 0;
-  /** @type {number[]} */
-  #turns = [];
+  /** @type {number[]} when the brightness began to rise or to fall, in milliseconds */
+  #changes = [];
 
   /**
    * Looks at a frame.
@@ -138,12 +138,12 @@ export class FlashMeter {
     if (this.#last === null || Math.abs(change) >= FLASH) {
       const direction = Math.sign(change);
       if (direction !== 0 && direction !== this.#direction) {
-        this.#turns.push(time);
+        this.#changes.push(time);
       }
       this.#direction = direction;
       this.#last = light;
     }
-    this.#turns = this.#turns.filter(turn => time - turn < 1000);
-    return this.#turns.length > 2 * MOST_FLASHES;
+    this.#changes = this.#changes.filter(when => time - when < 1000);
+    return this.#changes.length > 2 * MOST_FLASHES;
   }
 }

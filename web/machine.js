@@ -177,7 +177,7 @@ export class Machine extends EventTarget {
     this.#link.stop();
   }
 
-  // What the page is told.
+  // The events that a page can listen to.
 
   /**
    * Calls a function with what each event of a type tells.

@@ -30,7 +30,7 @@ def browser(request: pytest.FixtureRequest, tmp_path_factory: pytest.TempPathFac
 
 @pytest.fixture
 def teacher(browser: Browser, cam6: str, host: Callable[..., Host], page: Callable[..., Page]) -> Iterator[Teacher]:
-    """A teacher at an empty window. When they are done, no page may have told an error to the console, and the programs still
+    """A teacher at an empty window. When they are done, no page may have an error on the console, and the programs still
     run, so that none has lost its connection."""
     one, driver = Teacher(browser, cam6), browser.driver
     one.size(*WINDOW)

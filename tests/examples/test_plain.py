@@ -296,8 +296,8 @@ MEETING: dict[int, set[Cell]] = {
 def test_balls_that_meet_go_on_two_columns_behind() -> None:
     moved = Torus(128, []).moved
     for n, cells in enumerate(flights("interaction_gate", 0, 23)):
-        behind = 2 if n > 7 else 0
-        both = moved(DOWN, n - behind, n) | moved(UP, n - behind, -n)
+        late = 2 if n > 7 else 0
+        both = moved(DOWN, n - late, n) | moved(UP, n - late, -n)
         assert cells == MEETING.get(n, both) | moved(DOWN, n + 32, n) | moved(UP, n + 64, -n)
         assert n < 8 or both == MEETING.get(n, both)
 

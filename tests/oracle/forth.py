@@ -15,7 +15,7 @@ from oracle.wirings import HOODS, MINORS, names_of
 MOST_BYTES, MOST_DEFINITIONS, MOST_SIZE, MOST_IFS = 8192, 64, 4096, 16
 MOST_VALUES, LARGEST = 32, 65535
 
-# A kind of item and what is said by it: a number, a name, a word, bits to write, a definition, or bodies.
+# A kind of item and its content: a number, a name, a word, bits to write, a definition, or bodies.
 Item = tuple[str, Any]
 Leaves = Callable[..., list[int]]
 

@@ -86,7 +86,7 @@ class Asking(RuleBasedStateMachine):
         self.lines: list[bytes] = []
         self.came: list[bytes] = []
         self.wanted: list[bytes] = []
-        # What was said so far, as it may be broken.
+        # The commands so far, as lines like them may be broken.
         self.sent: list[Command] = [do("rules")]
 
     def machine_at(self) -> Machine:
@@ -275,6 +275,6 @@ class Asking(RuleBasedStateMachine):
 
     @rule(random=st.randoms(use_true_random=False), data=st.data())
     def broken(self, random: Random, data: st.DataObject) -> None:
-        """A line like one that was said, but broken."""
+        """A line like one that was sent, but broken."""
         for line in Breaker(random).line(data.draw(st.sampled_from(self.sent))).split(b"\n"):
             self.say(line)

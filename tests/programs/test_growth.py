@@ -1,6 +1,6 @@
 """A program holds no more memory after a million lines than after the first ones, or after a hundred of a million bytes.
 
-The same lines are sent again and again. Each reply is compared: with one that is said by hand, or with those of the oracle.
+The same lines are sent again and again. Each reply is compared: with one that is written by hand, or with those of the oracle.
 """
 
 from __future__ import annotations

@@ -1,7 +1,7 @@
 """What follows if an allocation fails: each request for memory is refused in turn, one in a run, until a run meets none.
 
 What isn't done must be done when it is asked for again. Nothing that was done may be lost. A program that can't go on must say
-so. What has to come back is said by hand, or by the oracle. The library that refuses is tests/support/refusing.c.
+so. What has to come back is written by hand, or by the oracle. The library that refuses is tests/support/refusing.c.
 """
 
 from __future__ import annotations

@@ -1,7 +1,7 @@
 """The largest machines are saved and loaded, and lines are as long as they may be, and longer.
 
 A machine with sixteen rules of 8,192 bytes goes from one run to another, between seats of a host, and from one limit to
-another, and is run and undone. What comes back is said by hand, or by the oracle. `test_growth.py` measures what is held.
+another, and is run and undone. What comes back is written by hand, or by the oracle. `test_growth.py` measures what is held.
 """
 
 from __future__ import annotations

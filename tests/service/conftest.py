@@ -19,7 +19,7 @@ PACKAGES = {"haproxy": "haproxy", "openssl": "openssl", "systemd-analyze": "syst
 
 
 def pytest_collection_modifyitems(config: pytest.Config, items: list[pytest.Item]) -> None:
-    """Tests of a fleet may take as long as they are told to, and longer to compare what came."""
+    """Tests of a fleet may take as long as the options say, and longer to compare what came."""
     for item in items:
         if item.path.parent.name == "fleets":
             item.add_marker("fleet")

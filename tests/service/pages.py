@@ -201,7 +201,7 @@ def status_of(port: int, path: str = "/ws", fields: Fields | None = None) -> int
 
 
 class Received(StreamRequestHandler):
-    """A connection: what it told the host, and whether it has ended. The line `L` is answered by `[L]`. After `end` the
+    """A connection: what the host got by it, and whether it has ended. The line `L` is answered by `[L]`. After `end` the
     host ends the connection, and `bytes` is answered by a line that isn't UTF-8."""
 
     def handle(self) -> None:
@@ -217,7 +217,7 @@ class Received(StreamRequestHandler):
 
 
 class Recorder(ThreadingTCPServer):
-    """A host that writes down each byte that it is told. `connections` are in the order in which they came."""
+    """A host that writes down each byte that it gets. `connections` are in the order in which they came."""
 
     daemon_threads, block_on_close, request_queue_size = True, False, 512
 

@@ -20,7 +20,7 @@ from .users import NO_COMMAND, PLANES, Pages, Session, closed, connected, steady
 
 # Seconds in which a request has to be whole, and that a busy machine may add.
 REQUEST, GRACE = 10, 8
-# Clients of a crowd, sockets that a program has if it isn't told another number, and threads that it may have besides.
+# Clients of a crowd, sockets that a program has if no other number is given, and threads that it may have besides.
 CROWD, SOCKETS, MORE_THREADS = 1000, 64, 80
 # Kilobytes that may be held for a crowd, and for sockets that never read.
 HELD, HELD_FOR_DEAF = 32 * 1024, 64 * 1024
@@ -108,7 +108,7 @@ def test_so_many_sockets_are_open_and_no_more(page: Pages, options: tuple[str, .
     with connected(Socket, port, most) as many:
         assert {refusal(port) for _ in range(3)} <= {503, 1013}
         assert get(port, "/").status == 200, "the page is shown beside them"
-        assert status_of(port, fields={"Origin": "http://x"}) == 403, "another origin is told before that"
+        assert status_of(port, fields={"Origin": "http://x"}) == 403, "another origin is refused before that"
         assert [one.ask("{}") for one in many] == [NO_COMMAND] * most, "those that are open go on"
         many[0].leave()
         assert wait_until(lambda: status_of(port) == 101, 5), "there is room after one was closed"

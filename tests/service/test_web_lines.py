@@ -1,5 +1,5 @@
 """Lines and their answers are carried as they stand, between a page and its host, or its own machine if it has no host. A host
-is told each message with an LF, in order, and nothing else."""
+is sent each message with an LF, in order, and nothing else."""
 
 from __future__ import annotations
 
@@ -26,7 +26,7 @@ FRAGMENTS = [
 ]
 AFTER_PONG = [frame_of(Opcode.PONG, b"nobody"), frame_of(Opcode.TEXT, b"after")]
 IN_ONE = b"".join(frame_of(Opcode.TEXT, b"%d" % at) for at in range(50))
-# What is sent in pieces, the pongs that come first, and the lines that a host is told.
+# What is sent in pieces, the pongs that come first, and the lines that a host is sent.
 PIECES: dict[str, tuple[list[bytes], list[bytes], list[str]]] = {
     "fragments, with a ping within": (FRAGMENTS, [b"hey"], ["fragment"]),
     "a pong that nobody asked for": (AFTER_PONG, [], ["after"]),
@@ -75,7 +75,7 @@ def test_odd_lines_have_the_replies_of_a_private_machine(cam6: str, bare: Page) 
 
 @pytest.fixture(scope="module")
 def host() -> Iterator[Recorder]:
-    """A host that writes down what it is told."""
+    """A host that writes down what it is sent."""
     with Recorder() as recorder:
         yield recorder
 
@@ -115,9 +115,9 @@ def test_frames_may_come_in_any_pieces(host: Recorder, one: Socket, what: str) -
 def test_a_message_that_is_no_line_closes_the_socket(host: Recorder, one: Socket, steady: Socket, row: Row) -> None:
     assert one.ask("first") == "[first]"
     connection = host.connections[-1]
-    # What comes behind a frame in the same piece isn't told either.
+    # What comes after a frame in the same piece isn't sent to the host either.
     frames = [frame_of(**{"opcode": 1} | frame) for frame in row.get("frames", [])]
-    data = bytes.fromhex(row.get("raw", "")) or b"".join([*frames, frame_of(Opcode.TEXT, b"behind")])
+    data = bytes.fromhex(row.get("raw", "")) or b"".join([*frames, frame_of(Opcode.TEXT, b"after")])
     threading.Thread(target=one.try_to_send, args=(data,), daemon=True).start()
     (code, reason), end = row["close"], one.closed()
     assert end and end[0] in (code, *row.get("or", [])) and reason in (None, end[1])

@@ -1,4 +1,4 @@
-"""The first message takes a seat of a host. A seat is free again however its page went, and a host that goes is told."""
+"""The first message takes a seat of a host. A seat is free again however its page went, and a page learns that its host goes."""
 
 from __future__ import annotations
 
@@ -135,7 +135,7 @@ def test_a_host_may_go_and_come_back(host: Hosts, page: Pages, readme: Session) 
             assert answers(one, readme.lines) == readme.replies
             its_host.kill()
             assert end_of_next(one) == GONE
-            assert silent.closed() == GONE, "a page that says nothing is told too"
+            assert silent.closed() == GONE, "a page that sends nothing is closed too"
         with Socket(served.port) as one:
             assert one.closed() == GONE
 

@@ -92,7 +92,7 @@ def fill(peer: Peer) -> None:
 
 @contextmanager
 def connected(kind: Callable[[int], P], port: int, count: int) -> Iterator[list[P]]:
-    """So many connections of a kind that have said nothing, and are closed in the end."""
+    """So many connections of a kind that send nothing, and are closed in the end."""
     peers = [kind(port) for _ in range(count)]
     try:
         yield peers

@@ -44,7 +44,7 @@ def arguments_of(way: str) -> list[str]:
 
 def assert_answers(example: Example, answers: Iterable[bytes], sent: Sequence[bytes] = ()) -> None:
     """Fails if what came back for the parts of an example isn't what its file says. Of a file that is wrong on purpose all
-    but the line that its head names has to come back. What was sent is told, and kept in a file that can be piped into the
+    but the line that its head names has to come back. What was sent is printed, and kept in a file that can be piped into the
     program. `sent` has it for each part if it isn't what the example says."""
     before, wrong = 0, example.wrong_line()
     for place, (part, came) in enumerate(zip(example.parts, answers, strict=True)):

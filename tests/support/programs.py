@@ -45,7 +45,7 @@ class Ran(NamedTuple):
 def ran(command: Iterable[str], data: bytes = b"", env: Env = None, patience: float = END) -> Ran:
     """Runs a program to its end, with these bytes as its input."""
     all_env = os.environ | dict(env or {})
-    # By files, since megabytes go through a pipe in thousands of turns of two processes.
+    # By files, since megabytes go through a pipe in thousands of switches between two processes.
     with tempfile.TemporaryFile() as given, tempfile.TemporaryFile() as output:
         given.write(data)
         given.seek(0)

@@ -2,7 +2,7 @@
 tried at all 4,096 addresses. Rules have some 4,090 words and read all twelve lines, unless their name says otherwise. It prints
 the least time of each rule in milliseconds, from the line to its reply.
 
-usage: fills.py PROGRAM [TIMES] [--random SEED] [--count N]     TIMES lines of each rule, 12 if it isn't said; with a seed N random
+usage: fills.py PROGRAM [TIMES] [--random SEED] [--count N]     TIMES lines of each rule, 12 by default; with a seed N random
                                                                 rules in place of the named ones, the most expensive ones first
 """
 

@@ -2,7 +2,7 @@
 one whose rules do all 4,096 words at each address. It prints the least and the median of each in milliseconds, from the line to
 its reply, and the bytes of the line of the load.
 
-usage: loads.py PROGRAM [TIMES]     each line so many times, 20 if it isn't said
+usage: loads.py PROGRAM [TIMES]     each line so many times, 20 by default
 """
 
 from __future__ import annotations

@@ -82,9 +82,9 @@ def main() -> None:
     parser = argparse.ArgumentParser(description=__doc__)
     parser.add_argument("program", metavar="PROGRAM")
     parser.add_argument(
-        "steps", metavar="STEPS", nargs="?", type=int, default=1000, help="steps of each user, 1,000 if it isn't said"
+        "steps", metavar="STEPS", nargs="?", type=int, default=1000, help="steps of each user, 1,000 by default"
     )
-    parser.add_argument("times", metavar="TIMES", nargs="?", type=int, default=5, help="runs, 5 if it isn't said")
+    parser.add_argument("times", metavar="TIMES", nargs="?", type=int, default=5, help="runs, 5 by default")
     asked = parser.parse_args()
     steps = asked.steps
     alone, together = Host(asked.program, 1, 1), Host(asked.program, 4, 2)

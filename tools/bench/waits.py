@@ -2,7 +2,7 @@
 standard input, beside another user who has tables filled without end, and beside users who do what they can to keep others
 waiting. It prints medians, 99th percentiles and the longest waits, in microseconds.
 
-usage: waits.py PROGRAM [COUNT]     COUNT commands of each kind, 1,000 if it isn't said; a twentieth of it beside a user whose
+usage: waits.py PROGRAM [COUNT]     COUNT commands of each kind, 1,000 by default; a twentieth of it beside a user whose
                                     tables are filled without end, and seven seconds beside hostile users
 """
 
@@ -174,7 +174,7 @@ def lone(program: str, count: int) -> None:
     user = host.user(1)
     prepare(machine, parity_lines())
     prepare(user, parity_lines())
-    # Both by turns, so that a bad minute is no one's.
+    # Both alternate, so that a bad minute slows both.
     of_machine, of_user = [], []
     for _ in range(10):
         of_machine += waits(machine, count // 10, PAUSE)

@@ -3,7 +3,7 @@
 # kept in unproved/. A script sources it after head.sh.
 KEPT=unproved
 declare -A CRATE_OF=([cam6]=cam6_host [cam6_draw]=cam6_draw [cam6_web]=cam6_web)
-# What is told while a program is compiled that isn't kept.
+# What is printed while a program is compiled that isn't kept.
 declare -A MINUTES_OF=([cam6]="two to four minutes" [cam6_draw]="two to four minutes" [cam6_web]="two to five minutes")
 
 # A sum of the sources of all crates.
@@ -47,7 +47,7 @@ compile() {
   feed "$program" > "$workdir/feed"
   options_of "$program"
   # In a group of its own, since a toolchain that is stopped ends all of its group.
-  (cd "crates/$crate" && TMPDIR=$workdir exec setsid rt try -- "${options[@]}" < "$workdir/feed") > "$workdir/written" 2> "$workdir/told" &
+  (cd "crates/$crate" && TMPDIR=$workdir exec setsid rt try -- "${options[@]}" < "$workdir/feed") > "$workdir/written" 2> "$workdir/errors" &
   toolchain=$!
   echo "$toolchain" > "$workdir/group"
   while kill -0 "$toolchain" 2> /dev/null; do
@@ -59,8 +59,8 @@ compile() {
     sleep 0.05
   done
   if ! wait "$toolchain" || [[ ! -x $workdir/kept ]]; then
-    echo "${script:?}: no program $program came of 'rt try' in crates/$crate, which said:" >&2
-    tail -n 5 "$workdir/told" >&2
+    echo "${script:?}: no program $program came of 'rt try' in crates/$crate, which printed:" >&2
+    tail -n 5 "$workdir/errors" >&2
     rm -rf "$workdir"
     return 1
   fi

@@ -127,7 +127,7 @@ test('a text goes out as it came, and a command as it was when it was made', () 
     '{"do":"cycle","entries":[{"a":"P","b":"-","grid":"ODD","phase":2}]}']);
 });
 
-test('commands that change a machine are told from those that don\'t', () => {
+test('commands that change a machine are distinguished from the others', () => {
   const zero = [lines.run(0), lines.back(0), lines.save(), lines.row(0, 0), lines.plane(0), lines.count(1),
     ...['{"do":"rules"}', '{"do":"colours","row":0}', 'no', 'null', '{"seat":1}'].map(commandOf)];
   const changing = [lines.run(1), lines.back(1), lines.set(0, 0, '0'), lines.clear(0), lines.side(128), lines.map([]),

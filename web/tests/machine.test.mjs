@@ -325,7 +325,7 @@ test('a load of a side that is too large has fault 67, and changes nothing', asy
   machine.stop();
 });
 
-test('a host that answers otherwise when commands are played again is told of', async () => {
+test('a host that answers otherwise when commands are played again is reported', async () => {
   const net = new FakeNet();
   const machine = machineOf(net);
   await machine.start();

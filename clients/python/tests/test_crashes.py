@@ -357,7 +357,7 @@ VALUES = st.recursive(
 @example(row='{"drop":1e999}')
 @example(row='{"reply":' + "[" * 9999 + "]" * 9999 + "}")
 def test_a_line_that_is_none_of_a_journal_is_told(row: str) -> None:
-    """Each JSON value is taken as a line of a journal, or told as none."""
+    """Each JSON value is taken as a line of a journal, or reported as damage."""
     with tempfile.TemporaryDirectory() as folder:
         path = Path(folder) / "journal"
         Journal(str(path), "none", LIMIT).close()
@@ -466,7 +466,7 @@ class Journals(RuleBasedStateMachine):
             return self.open()
         except Crash:
             return self.end()
-        self.now, self.is_behind = known_to(self.journal), False
+        self.now, self.is_stale = known_to(self.journal), False
         assert self.now in self.file
         # What the last program wrote is on the disk now.
         self.file = self.power = [self.now]
@@ -486,7 +486,7 @@ class Journals(RuleBasedStateMachine):
     def do(self, call: Callable[[], Any], acts: list[Act], sync: Sync = Sync.NEVER, is_known: bool = True) -> None:
         """Does what leads to some lines of the file. It may fail after each of them."""
         after = states_of(self.now, acts)[-1]
-        is_anew = self.is_behind or sync is Sync.ANEW
+        is_anew = self.is_stale or sync is Sync.ANEW
         if is_anew:
             # The old file stays as it is. A new one has what is known, and then lines of what is not known yet.
             ends, new = [after], [after] if is_known else states_of(self.now, acts)
@@ -499,15 +499,15 @@ class Journals(RuleBasedStateMachine):
             call()
         except GOES_ON:
             self.file, self.power = states, [*self.power, *states]
-            # A file whose name is not on the disk is behind, too.
-            self.is_behind = self.is_behind or sync is not Sync.ANEW or bool(self.disk.before)
+            # A file whose name is not on the disk is stale, too.
+            self.is_stale = self.is_stale or sync is not Sync.ANEW or bool(self.disk.before)
             self.now = after if is_known else self.now
         except Crash:
             self.file, self.power = states, [*self.power, *states]
             self.end()
         else:
             self.file, self.power = ends, power if sync is Sync.NEVER else ends
-            self.is_behind, self.now = False, after
+            self.is_stale, self.now = False, after
         assert known_to(self.journal) == self.now
 
     @invariant()
@@ -562,7 +562,7 @@ class Journals(RuleBasedStateMachine):
         except Crash:
             self.end()
         else:
-            self.power = self.power if self.is_behind else self.file
+            self.power = self.power if self.is_stale else self.file
             self.open(failure)
 
 

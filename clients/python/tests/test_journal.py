@@ -137,7 +137,7 @@ def test_other_files(data: bytes, path: Path, opened: Opened) -> None:
 
 @pytest.mark.parametrize("wrong", WRONG)
 def test_a_file_that_is_damaged_before_the_last_line(wrong: bytes, path: Path, opened: Opened) -> None:
-    """What is wrong in the middle is told, and nothing is cut."""
+    """What is wrong in the middle is reported, and nothing is cut."""
     written(opened())
     rows = path.read_bytes().split(b"\n")
     data = b"\n".join([rows[0], wrong, *rows[1:]])

@@ -1,4 +1,4 @@
-"""Lines: each is a command as the oracle's reader reads it, and says what the call's arguments said."""
+"""Lines: each is a command as the oracle's reader reads it, and has the values of the call's arguments."""
 
 from __future__ import annotations
 
@@ -38,7 +38,7 @@ CALLS: list[tuple[Call[Any], dict[str, Any]]] = [
 
 
 @pytest.mark.parametrize(("call", "want"), CALLS, ids=[want["do"] for _, want in CALLS])
-def test_a_line_says_what_the_arguments_said(call: Call[Any], want: dict[str, Any]) -> None:
+def test_a_line_has_the_values_of_the_arguments(call: Call[Any], want: dict[str, Any]) -> None:
     [line] = call.lines
     assert read_line(line, is_command) == want
 

@@ -223,7 +223,7 @@ def test_a_connection_without_a_journal_is_lost(breaking: Breakings) -> None:
     [(256, 256, ""), (256, 128, "has the limit 256, and the session has 128"), (512, 256, "limit 512")],
 )
 def test_hosts_of_a_limit(here: int, limit: int, sentence: str, breaking: Breakings, connected: Connected) -> None:
-    """A session needs a host of the limit that was said."""
+    """A session needs a host of its own limit."""
     port = breaking(limit=here).port
     if not sentence:
         assert connected(port, limit=limit).side == limit

@@ -61,7 +61,7 @@ def ended_by_sigterm() -> Iterator[None]:
 
 class Ground:
     """The machines of a fleet, its nodes. All of them are this machine, at free ports, until cables are laid. Then each node
-    is a network namespace, and so is the switch. Its cable can be pulled: what is sent then is lost, and nobody is told.
+    is a network namespace, and so is the switch. Its cable can be pulled: what is sent then is lost, without an error.
     """
 
     has_cables = False

@@ -121,7 +121,7 @@ class Troubles:
             if is_watched:
                 self.is_seen_as(name, "DOWN")
                 have_gone = wait_until(lambda: self.fleet.front.stats(name)["scur"] == "0", SEEN)
-                self.note(have_gone, f"users of the stopped host {name} are not told to go")
+                self.note(have_gone, f"users of the stopped host {name} are not closed")
             yield
         self.is_seen_as(name, "UP")
 
@@ -152,7 +152,7 @@ class Troubles:
         yield
 
     def pulled(self, node: str, in_its_place: Service) -> Iterator[None]:
-        """A node's cable is pulled: what is sent is lost, and nobody is told. Without cables a program is stopped."""
+        """A node's cable is pulled: what is sent is lost, without an error. Without cables a program is stopped."""
         self.counts["cables pulled"] += 1
         ground = self.fleet.ground
         with ground.pulled(node) if ground.has_cables else in_its_place.stopped():

@@ -259,7 +259,7 @@ class Connection(Channel):
         except (BlockingIOError, ssl.SSLWantReadError, ssl.SSLWantWriteError):
             return 0
         except (BrokenPipeError, ConnectionResetError):
-            return len(data)  # What the host said before it closed is read next.
+            return len(data)  # What the host wrote before it closed is read next.
 
     def _read(self) -> Optional[bytes]:
         try:

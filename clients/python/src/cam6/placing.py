@@ -54,7 +54,7 @@ def placed(plane: Any, bits: Any, x: Any, y: Any, side: int) -> Placed:
 
 
 def padded(grid: Any, width: int) -> Any:
-    """The cells with as many columns of 0 behind them as make a row a multiple of 8 cells wide."""
+    """The cells with as many columns of 0 after them as make a row a multiple of 8 cells wide."""
     more = -width % 8
     if not more:
         return grid

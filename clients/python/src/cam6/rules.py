@@ -55,7 +55,7 @@ class Rule:
     """A rule that a machine can be given, by `machine.rule(name, rule)`.
 
     text: CAM Forth, at most 8,192 bytes. hood and minor: the names that it may read. half: "A" or "B". name: what a
-    machine calls it if it isn't told otherwise. cycle: the grid and the phase of each step, 1 to 16 of them.
+    machine calls it unless another one is given. cycle: the grid and the phase of each step, 1 to 16 of them.
     """
 
     text: str

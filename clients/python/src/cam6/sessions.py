@@ -164,7 +164,7 @@ class Session:
         return self.journal.number
 
     def _begin(self) -> None:
-        """Takes the first seat. A new journal is not worth waiting for: a mistyped address is told at once."""
+        """Takes the first seat. A new journal is not worth waiting for: a mistyped address is reported at once."""
         if self.journal.number == 0:
             try:
                 self._rebuild(seated(self._connector), self._time_of_deadline())
