@@ -8,7 +8,7 @@ use Rattle.cam6_table.specs.declared.codes.Instruction.{Instruction}
 use Rattle.cam6_table.specs.declared.evaluation.Next.{Next}
 use Rattle.cam6_table.specs.declared.outputs.State.{State}
 use Rattle.cam6_table.specs.Meaning.{then_do}
-use Rattle.cam6_table.specs.Codes.{Lines, last_of, act, exec, turns_of, turns_after}
+use Rattle.cam6_table.specs.Codes.{Lines, last_of, act, exec, steps_of, steps_after}
 
 -- the last of instructions that are kept back to front
 pub last-before : (kept code : List Instruction) (behind : ℕ) (i : Instruction) →
@@ -45,11 +45,11 @@ exec-drop shows code zero word s = refl
 exec-drop shows [] (suc passed) word s = refl
 exec-drop shows (i ∷ code) (suc passed) word s = exec-drop shows code passed word s
 
-turns-drop : (shows : Lines) (code : List Instruction) (passed : ℕ) (word : Option ℕ) (s : State) →
-    turns_of shows code passed word s ≡ turns_of shows (drop passed code) 0 word s
-turns-drop shows code zero word s = refl
-turns-drop shows [] (suc passed) word s = refl
-turns-drop shows (i ∷ code) (suc passed) word s = turns-drop shows code passed word s
+steps-drop : (shows : Lines) (code : List Instruction) (passed : ℕ) (word : Option ℕ) (s : State) →
+    steps_of shows code passed word s ≡ steps_of shows (drop passed code) 0 word s
+steps-drop shows code zero word s = refl
+steps-drop shows [] (suc passed) word s = refl
+steps-drop shows (i ∷ code) (suc passed) word s = steps-drop shows code passed word s
 
 -- the first of the last so many instructions is done, and the code goes on
 module _ (shows : Lines) (code : List Instruction) (behind before after : ℕ) (word : Option ℕ)
@@ -71,12 +71,12 @@ module _ (shows : Lines) (code : List Instruction) (behind before after : ℕ) (
       exec-drop shows (last_of before code) next.passed next.word new ∙
       ap (λ c. exec shows c 0 next.word new) later
 
-  pub turns-go_on :
-      turns_of shows (last_of behind code) 0 word s ≡
-      suc (turns_of shows (last_of after code) 0 next.word new)
-  turns-go_on =
-      ap (λ c. turns_of shows c 0 word s) ahead ∙
-      ap (λ r. suc (turns_after r (λ d.
-      turns_of shows (last_of before code) d.1.passed d.1.word d.0))) done ∙
-      ap suc (turns-drop shows (last_of before code) next.passed next.word new) ∙
-      ap (λ c. suc (turns_of shows c 0 next.word new)) later
+  pub steps-go_on :
+      steps_of shows (last_of behind code) 0 word s ≡
+      suc (steps_of shows (last_of after code) 0 next.word new)
+  steps-go_on =
+      ap (λ c. steps_of shows c 0 word s) ahead ∙
+      ap (λ r. suc (steps_after r (λ d.
+      steps_of shows (last_of before code) d.1.passed d.1.word d.0))) done ∙
+      ap suc (steps-drop shows (last_of before code) next.passed next.word new) ∙
+      ap (λ c. suc (steps_of shows c 0 next.word new)) later

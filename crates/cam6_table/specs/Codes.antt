@@ -64,17 +64,17 @@ exec shows (instruction ∷ code) zero index s =
     (λ done. exec shows code done.1.passed done.1.word done.0)
 
 -- how many instructions follow, or none after a fault
-abbrev pub turns_after : Result (State × Next) RuleFault → (State × Next → ℕ) → ℕ
-turns_after (Ok done) turns = turns done
-turns_after (Err fault) turns = 0
+abbrev pub steps_after : Result (State × Next) RuleFault → (State × Next → ℕ) → ℕ
+steps_after (Ok done) steps = steps done
+steps_after (Err fault) steps = 0
 
 -- how many instructions it does
-abbrev pub turns_of : Lines → List Instruction → ℕ → Option ℕ → State → ℕ
-turns_of shows [] passed index s = 0
-turns_of shows (instruction ∷ code) (suc passed) index s = turns_of shows code passed index s
-turns_of shows (instruction ∷ code) zero index s =
-    suc (turns_after (act shows index instruction s)
-    (λ done. turns_of shows code done.1.passed done.1.word done.0))
+abbrev pub steps_of : Lines → List Instruction → ℕ → Option ℕ → State → ℕ
+steps_of shows [] passed index s = 0
+steps_of shows (instruction ∷ code) (suc passed) index s = steps_of shows code passed index s
+steps_of shows (instruction ∷ code) zero index s =
+    suc (steps_after (act shows index instruction s)
+    (λ done. steps_of shows code done.1.passed done.1.word done.0))
 
 -- the two new bits at the end; a plane that isn't written keeps its centre, on line 0 or 1
 abbrev pub entry_at : ℕ → Result State RuleFault → Result ℕ RuleFault
@@ -86,8 +86,8 @@ abbrev pub result_at : List Instruction → ℕ → Result ℕ RuleFault
 result_at code address = entry_at address (exec (shown address) code 0 None untouched)
 
 -- how many instructions it does there
-abbrev pub turns_at : List Instruction → ℕ → ℕ
-turns_at code address = turns_of (shown address) code 0 None untouched
+abbrev pub steps_at : List Instruction → ℕ → ℕ
+steps_at code address = steps_of (shown address) code 0 None untouched
 
 -- the code of a rule: at each address its result is what the rule means there, by any tree of the
 -- rule

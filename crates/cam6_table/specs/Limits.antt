@@ -9,6 +9,6 @@ max_values = 32
 abbrev pub max_value : ℕ
 max_value = 65535
 
--- the most instructions that a rule's code has, and so the most turns that it takes
-abbrev pub max_turns : ℕ
-max_turns = 4096
+-- the most instructions that a rule's code has, and so the most steps that it takes
+abbrev pub max_eval_steps : ℕ
+max_eval_steps = 4096

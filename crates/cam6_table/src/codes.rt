@@ -1,6 +1,6 @@
 //! Flat code: instructions in a row, with jumps that only go forward.
 ghost use Rattle.std.specs.Prelude.{◌≡◌, ◌≤◌, ◌<◌, length};
-ghost use Rattle.cam6_table.specs.Limits.{max_turns};
+ghost use Rattle.cam6_table.specs.Limits.{max_eval_steps};
 
 use cam6_forth::{StackWord, Target};
 use cam6_planes::NoMemory;
@@ -97,20 +97,20 @@ pub struct Code {
 
 impl Model for Code {
     ghost use Rattle.std.specs.Prelude.{List, length, ◌≤◌};
-    ghost use Rattle.cam6_table.specs.Limits.{max_turns};
+    ghost use Rattle.cam6_table.specs.Limits.{max_eval_steps};
     ghost use Rattle.cam6_table.specs.declared.codes.Instruction.{Instruction};
 
     ghost Value = { List Instruction };
 
     ghost view = { λ c. c.instructions };
 
-    ghost invariant = { λ c. length c.instructions ≤ max_turns };
+    ghost invariant = { λ c. length c.instructions ≤ max_eval_steps };
 }
 
 impl Code {
     /// The code of these instructions. They must be 4,096 at most.
     pub(crate) fn new(instructions: Instructions) -> Code
-        requires { length instructions ≤ max_turns }
+        requires { length instructions ≤ max_eval_steps }
         ensures { result ≡ instructions }
     {
         Code { instructions }
@@ -119,7 +119,7 @@ impl Code {
     /// The instructions, 4,096 at most.
     pub(crate) fn instructions(&self) -> &Instructions
         ensures instructions { result.now ≡ self.now }
-        ensures limit { length self.now ≤ max_turns }
+        ensures limit { length self.now ≤ max_eval_steps }
     {
         &self.instructions
     }

@@ -1,6 +1,6 @@
 //! Turns a rule into flat code, with the definitions that it uses written out.
 ghost use Rattle.std.specs.Prelude.{◌≡◌, ◌≤◌, [], ◌++◌, length, IfOk, OnOk};
-ghost use Rattle.cam6_table.specs.Limits.{max_turns};
+ghost use Rattle.cam6_table.specs.Limits.{max_eval_steps};
 ghost use Rattle.cam6_table.specs.Codes.{IsCodeOf};
 ghost use Rattle.cam6_table.specs.Internal.Emitting.{words_code, all_codes, nothing};
 ghost use Rattle.cam6_table.specs.Internal.Emitting.{HaveTheirs, AllHaveTheirs};
@@ -17,7 +17,7 @@ impl Code {
     /// jumps only lead forward.
     pub fn of(alloc: Global, rule: &Rule) -> Result<Code, NoMemory>
         ensures meaning { IfOk result (λ code. IsCodeOf code rule.now) }
-        ensures limit { IfOk result (λ code. length code ≤ max_turns) }
+        ensures limit { IfOk result (λ code. length code ≤ max_eval_steps) }
     {
         let mut codes = codes_of(alloc, rule.wiring(), rule.definitions())?;
         match codes.pop() {

@@ -2,10 +2,10 @@
 ghost use Rattle.std.specs.Prelude.{◌≡◌, ◌+◌, ◌<◌, ◌≤◌, None, IfOk, length};
 ghost use Rattle.cam6_planes.specs.Row.{bit_number};
 ghost use Rattle.cam6_wiring.specs.Seen.{shown};
-ghost use Rattle.cam6_table.specs.declared.evaluation.TheConstants.{MAX_TURNS};
+ghost use Rattle.cam6_table.specs.declared.evaluation.TheConstants.{MAX_EVAL_STEPS};
 ghost use Rattle.cam6_table.specs.Words.{IsOutcome};
-ghost use Rattle.cam6_table.specs.Limits.{max_turns};
-ghost use Rattle.cam6_table.specs.Codes.{act, exec, turns_of, result_at, turns_at, at_head};
+ghost use Rattle.cam6_table.specs.Limits.{max_eval_steps};
+ghost use Rattle.cam6_table.specs.Codes.{act, exec, steps_of, result_at, steps_at, at_head};
 ghost use Rattle.cam6_table.specs.Codes.{last_of, Acts};
 
 use crate::codes::{Code, Instruction, Instructions};
@@ -13,22 +13,22 @@ use crate::faults::RuleFault;
 use crate::outputs::{State, entry_of, untouched, write_output};
 
 /// Steps that a rule can take, one for each instruction.
-pub const MAX_TURNS: u32 = 4096;
+pub const MAX_EVAL_STEPS: u32 = 4096;
 
 /// Returns the entry of the rule's table at an address, or the fault at which the rule stops there.
-/// Bit 0 is the new lower plane, bit 1 the new upper plane. `turns` is at least `MAX_TURNS`, and
+/// Bit 0 is the new lower plane, bit 1 the new upper plane. `steps` is at least `MAX_EVAL_STEPS`, and
 /// falls by one with each instruction that is done.
-pub fn eval(code: &Code, address: u16, turns: &mut u32) -> Result<u8, RuleFault>
-    requires turns { max_turns ≤ turns.old }
+pub fn eval(code: &Code, address: u16, steps: &mut u32) -> Result<u8, RuleFault>
+    requires steps { max_eval_steps ≤ steps.old }
     ensures value { result ≡ result_at code.now address }
     ensures within { IfOk result (λ entry. entry < 4) }
-    ensures turns { turns.old ≡ turns.new + turns_at code.now address }
-    ensures limit { turns.old ≤ turns.new + max_turns }
-    ensures constant { MAX_TURNS ≡ max_turns }
+    ensures steps { steps.old ≡ steps.new + steps_at code.now address }
+    ensures limit { steps.old ≤ steps.new + max_eval_steps }
+    ensures constant { MAX_EVAL_STEPS ≡ max_eval_steps }
 {
     let mut state = untouched();
     let code = code.instructions();
-    run(code, start(code), address, &mut state, turns)?;
+    run(code, start(code), address, &mut state, steps)?;
     Ok(entry_of(&state, address))
 }
 
@@ -50,28 +50,28 @@ pub fn start(code: &Instructions) -> Place
 }
 
 /// Runs the code from a place on to its end, and changes the state. Returns the fault if it stops
-/// before. `turns` falls by one with each instruction that is done.
+/// before. `steps` falls by one with each instruction that is done.
 pub fn run(
     code: &Instructions,
     from: Place,
     address: u16,
     state: &mut State,
-    turns: &mut u32,
+    steps: &mut u32,
 ) -> Result<(), RuleFault>
     requires place { from.behind ≤ length code.now }
-    requires turns { from.behind ≤ turns.old }
+    requires steps { from.behind ≤ steps.old }
     ensures done { IsOutcome
         (exec (shown address) (last_of from.behind code.now) 0 from.word state.old)
         state.new result }
-    ensures turns { turns.old ≡ turns.new
-        + turns_of (shown address) (last_of from.behind code.now) 0 from.word state.old }
-    ensures limit { turns.old ≤ turns.new + from.behind }
+    ensures steps { steps.old ≡ steps.new
+        + steps_of (shown address) (last_of from.behind code.now) 0 from.word state.old }
+    ensures limit { steps.old ≤ steps.new + from.behind }
 {
     let mut behind = from.behind;
     let mut word = from.word;
     while behind > 0 {
         behind -= 1;
-        *turns -= 1;
+        *steps -= 1;
         let next = act(word, code.before(behind), address, state)?;
         behind = behind.saturating_sub(next.passed);
         word = next.word;

@@ -16,7 +16,7 @@ ghost use Rattle.cam6_table.specs.Internal.Filling.{IsRight, AreRightIfFilled, A
 ghost use Rattle.cam6_table.specs.Internal.Filling.{IsFirstStop, unfilled};
 
 use crate::codes::Code;
-use crate::evaluation::{MAX_TURNS, Place, run};
+use crate::evaluation::{MAX_EVAL_STEPS, Place, run};
 use crate::faults::RuleFault;
 use crate::flows::{Places, all_at_start};
 use crate::lane_values::{LANES, LaneValues};
@@ -250,8 +250,8 @@ fn entry_in(code: &Code, room: &Room, lane: usize, address: u16) -> Result<u8, R
         return Ok(entry_at_end(&room.lanes, lane, address));
     }
     let mut state = state_of(&room.lanes, lane, usize::from(room.places.tops[lane]));
-    let mut turns = MAX_TURNS;
+    let mut steps = MAX_EVAL_STEPS;
     let place = Place { behind, word: None };
-    run(code.instructions(), place, address, &mut state, &mut turns)?;
+    run(code.instructions(), place, address, &mut state, &mut steps)?;
     Ok(entry_of(&state, address))
 }

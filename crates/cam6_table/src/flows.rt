@@ -3,7 +3,7 @@ ghost use Rattle.std.specs.Prelude.{◌≡◌, ◌==◌, ◌&&◌, ◌⊎◌, �
 ghost use Rattle.cam6_table.specs.declared.lane_values.TheConstants.{LANES};
 ghost use Rattle.cam6_table.specs.declared.codes.Instruction.{Instruction};
 ghost use Rattle.cam6_table.specs.declared.codes.Instruction.TheVariants.{SkipIfZero, Case};
-ghost use Rattle.cam6_table.specs.Limits.{max_turns};
+ghost use Rattle.cam6_table.specs.Limits.{max_eval_steps};
 ghost use Rattle.cam6_table.specs.declared.lane_stacks.TheConstants.{ROWS};
 ghost use Rattle.cam6_table.specs.Internal.Sets.{IsIn, IsOut, IsOther, IsInOnePart};
 ghost use Rattle.cam6_table.specs.Internal.Lanes.{IsNext, AreFound, Holds, IsSpanned, AreParted};
@@ -41,7 +41,7 @@ pub struct Flow {
 
 /// All lanes wait at the start of code.
 pub fn all_at_start(code: &Instructions) -> Places
-    requires { length code.now ≤ max_turns }
+    requires { length code.now ≤ max_eval_steps }
     ensures behinds { (lane : ℕ) → lane < LANES →
         slice_index result.behinds lane ≡ length code.now }
     ensures tops { (lane : ℕ) → lane < LANES → slice_index result.tops lane ≡ 0 }
@@ -119,7 +119,7 @@ pub fn others_at(set: &LaneMask, places: &Places, behind: u16, top: u16) -> Lane
 /// row.
 #[inline(always)]
 pub fn wait(places: &mut Places, set: &LaneMask, behind: usize, top: usize)
-    requires behind { behind ≤ max_turns }
+    requires behind { behind ≤ max_eval_steps }
     requires top { top ≤ ROWS }
     ensures behinds { (lane : ℕ) → lane < LANES → IsIn set.now lane →
         slice_index places.new.behinds lane ≡ behind }
@@ -148,7 +148,7 @@ pub fn part_at_if(
 ) -> Result<(), Apart>
     requires some { 0 < flow.old.behind }
     requires within { flow.old.behind ≤ length code.now }
-    requires code { length code.now ≤ max_turns }
+    requires code { length code.now ≤ max_eval_steps }
     requires holds { Holds flow.old.span lanes.old.stacks.len }
     requires floors { (lane : ℕ) → lane < LANES → IsIn flow.old.set.mask lane →
         IsSpanned flow.old.span lane lanes.old.floors }
@@ -196,7 +196,7 @@ fn go_apart(
     lanes: &mut Lanes,
 )
     requires within { flow.old.behind ≤ length code.now }
-    requires code { length code.now ≤ max_turns }
+    requires code { length code.now ≤ max_eval_steps }
     requires target { target ≤ flow.old.behind }
     requires holds { Holds flow.old.span lanes.old.stacks.len }
     requires floors { (lane : ℕ) → lane < LANES → IsIn flow.old.set.mask lane →
@@ -247,7 +247,7 @@ pub fn part_at_case(
 ) -> Result<(), Apart>
     requires some { 0 < flow.old.behind }
     requires within { flow.old.behind ≤ length code.now }
-    requires code { length code.now ≤ max_turns }
+    requires code { length code.now ≤ max_eval_steps }
     requires holds { Holds flow.old.span lanes.old.stacks.len }
     requires next { IsNext code.now flow.old.behind (Case count) }
     ensures falls { OnOk result (flow.new.behind < flow.old.behind) }
@@ -296,7 +296,7 @@ fn words_found(
     words: &mut LaneQueue,
 ) -> Result<LaneValues, Apart>
     requires within { from ≤ length code.now }
-    requires code { length code.now ≤ max_turns }
+    requires code { length code.now ≤ max_eval_steps }
     ensures { IfOk result (AreFound code.now from count set.now indices.now old.now) }
 {
     let last = usize::from(greatest_in(set, indices));

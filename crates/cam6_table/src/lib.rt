@@ -61,6 +61,6 @@ mod waiting;
 pub use cam6_entries::{BandRows, ENTRIES, Table, Written};
 pub use codes::{Code, Instruction};
 pub use compiling::{NotCompiled, compile};
-pub use evaluation::{MAX_TURNS, eval};
+pub use evaluation::{MAX_EVAL_STEPS, eval};
 pub use faults::RuleFault;
 pub use filling::fill;

@@ -4,7 +4,7 @@ ghost use Rattle.cam6_table.specs.declared.codes.Instruction.{Instruction};
 ghost use Rattle.cam6_table.specs.declared.flows.Places.{Places};
 ghost use Rattle.cam6_table.specs.declared.lanes.Lanes.{Lanes};
 ghost use Rattle.cam6_table.specs.declared.lane_values.TheConstants.{LANES};
-ghost use Rattle.cam6_table.specs.Limits.{max_turns};
+ghost use Rattle.cam6_table.specs.Limits.{max_eval_steps};
 ghost use Rattle.cam6_table.specs.Internal.Lanes.{Holds, AreLeftWith};
 ghost use Rattle.cam6_table.specs.Internal.Sets.{IsIn, IsOut};
 
@@ -34,7 +34,7 @@ pub fn go_on(
     places: &mut Places,
     lanes: &mut Lanes,
 ) -> bool
-    requires code { length code.now ≤ max_turns }
+    requires code { length code.now ≤ max_eval_steps }
     requires within { flow.old.behind ≤ length code.now }
     requires holds { Holds flow.old.span lanes.old.stacks.len }
     requires each { (lane : ℕ) → lane < LANES →
@@ -69,7 +69,7 @@ fn exchange(
     places: &mut Places,
     lanes: &mut Lanes,
 )
-    requires code { length code.now ≤ max_turns }
+    requires code { length code.now ≤ max_eval_steps }
     requires within { flow.old.behind ≤ length code.now }
     requires holds { Holds flow.old.span lanes.old.stacks.len }
     ensures left { (addresses : List ℕ) →

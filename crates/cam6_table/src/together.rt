@@ -2,7 +2,7 @@
 ghost use Rattle.std.specs.Prelude.{◌≡◌, ◌<◌, ◌≤◌, ℕ, OnOk, length};
 ghost use Rattle.cam6_table.specs.declared.flows.Places.{Places};
 ghost use Rattle.cam6_table.specs.declared.lane_values.TheConstants.{LANES};
-ghost use Rattle.cam6_table.specs.Limits.{max_turns};
+ghost use Rattle.cam6_table.specs.Limits.{max_eval_steps};
 ghost use Rattle.cam6_table.specs.Internal.Lanes.{AreLeft, AreLeftWith, Holds, IsSpanned};
 ghost use Rattle.cam6_table.specs.Internal.Sets.{IsIn};
 
@@ -20,7 +20,7 @@ const FLOWS: u32 = 64 * 4096;
 
 /// Lanes whose stacks end at different rows pass the same instructions one after the other. After so
 /// many instructions in all they are sooner done one by one.
-const MOST_TURNS: usize = 12 * 4096;
+const MOST_STEPS: usize = 12 * 4096;
 
 /// Runs the code in all lanes, each at its address, as far as they go together. `places` has then
 /// where each lane is. That is the end of the code, or a place from which it can be run on by
@@ -31,7 +31,7 @@ pub fn run_together(
     places: &mut Places,
     lanes: &mut Lanes,
 )
-    requires code { length code.now ≤ max_turns }
+    requires code { length code.now ≤ max_eval_steps }
     requires left { AreLeft addresses.now code.now places.old lanes.old }
     ensures left { AreLeft addresses.now code.now places.new lanes.new }
 {
@@ -42,7 +42,7 @@ pub fn run_together(
 }
 
 /// Runs the code in the lanes of a flow and in those that part from it. It ends early if
-/// `MOST_TURNS` are used up, or if a flow can't go on.
+/// `MOST_STEPS` are used up, or if a flow can't go on.
 fn run_flows(
     code: &Instructions,
     addresses: &LaneValues,
@@ -50,15 +50,15 @@ fn run_flows(
     places: &mut Places,
     lanes: &mut Lanes,
 )
-    requires code { length code.now ≤ max_turns }
+    requires code { length code.now ≤ max_eval_steps }
     requires left { AreLeftWith addresses.now code.now flow.old places.old lanes.old }
     ensures left { AreLeftWith addresses.now code.now flow.new places.new lanes.new }
 {
     let mut queue = LaneQueue::new();
-    let mut turns = MOST_TURNS;
+    let mut steps = MOST_STEPS;
     for _ in 0..FLOWS {
-        let ran = run_flow(code, addresses, flow, &mut queue, places, lanes, &mut turns);
-        if turns == 0 {
+        let ran = run_flow(code, addresses, flow, &mut queue, places, lanes, &mut steps);
+        if steps == 0 {
             return;
         }
         if !go_on(code, ran, flow, &mut queue, places, lanes) {
@@ -76,16 +76,16 @@ fn run_flow(
     queue: &mut LaneQueue,
     places: &mut Places,
     lanes: &mut Lanes,
-    turns: &mut usize,
+    steps: &mut usize,
 ) -> Result<(), Apart>
-    requires code { length code.now ≤ max_turns }
+    requires code { length code.now ≤ max_eval_steps }
     requires left { AreLeftWith addresses.now code.now flow.old places.old lanes.old }
     ensures left { AreLeftWith addresses.now code.now flow.new places.new lanes.new }
 {
-    while flow.behind > flow.until && *turns > 0 {
+    while flow.behind > flow.until && *steps > 0 {
         let from = flow.behind;
         advance(code, addresses, flow, queue, places, lanes)?;
-        *turns = turns.saturating_sub(from - flow.behind);
+        *steps = steps.saturating_sub(from - flow.behind);
     }
     Ok(())
 }
@@ -101,7 +101,7 @@ fn advance(
     places: &mut Places,
     lanes: &mut Lanes,
 ) -> Result<(), Apart>
-    requires code { length code.now ≤ max_turns }
+    requires code { length code.now ≤ max_eval_steps }
     requires some { flow.old.until < flow.old.behind }
     requires left { AreLeftWith addresses.now code.now flow.old places.old lanes.old }
     ensures falls { OnOk result (flow.new.behind < flow.old.behind) }
@@ -151,7 +151,7 @@ fn part(
     places: &mut Places,
     lanes: &mut Lanes,
 ) -> Result<(), Apart>
-    requires code { length code.now ≤ max_turns }
+    requires code { length code.now ≤ max_eval_steps }
     requires some { 0 < flow.old.behind }
     requires left { AreLeftWith addresses.now code.now flow.old places.old lanes.old }
     ensures falls { OnOk result (flow.new.behind < flow.old.behind) }

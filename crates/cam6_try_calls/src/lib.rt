@@ -6,7 +6,7 @@
 //! Read next: `failing`, readers, writers and desks that fail, with the sessions over them in
 //! `sessions` and the answers on their way in `outboxes`. Then what no program calls: `planes` and
 //! `lines`, planes and what their cells see; `bands`, a step that is moved; and `ample_memory`,
-//! calls that allocate. Last, `turns` of the largest rules.
+//! calls that allocate. Last, `steps` of the largest rules.
 #![tactic(auto)]
 
 #[cfg(test)]
@@ -24,4 +24,4 @@ mod planes;
 #[cfg(test)]
 mod sessions;
 #[cfg(test)]
-mod turns;
+mod steps;

@@ -1,7 +1,7 @@
 //! What words leave on the stack, as far as rules can find out by what they write.
 
 use crate::rules::texts::{read_rule, rule_fault};
-use cam6_table::{Code, MAX_TURNS, RuleFault, eval};
+use cam6_table::{Code, MAX_EVAL_STEPS, RuleFault, eval};
 use cam6_try_examples::{Sent, add_line, no_memory};
 use cam6_wiring::{Half, Hood, Minor, Wiring};
 use std::alloc::Global;
@@ -36,8 +36,8 @@ fn written_by(alloc: Global, body: &str) -> io::Result<Result<u8, RuleFault>> {
         io::ErrorKind::InvalidData,
     ))?;
     let code = Code::of(alloc, &rule).map_err(|_| no_memory())?;
-    let mut turns = MAX_TURNS;
-    Ok(eval(&code, 0, &mut turns))
+    let mut steps = MAX_EVAL_STEPS;
+    Ok(eval(&code, 0, &mut steps))
 }
 
 /// The words, and then so many `DROP`.

@@ -3,7 +3,7 @@ ghost use Rattle.std.specs.Prelude.{IfOk, OnOk};
 ghost use Rattle.cam6_table.specs.RuleTexts.{IsCodeFor, IsTableOf};
 
 use cam6_forth::{Definition, ParseFault, Rule, TextFault, Word, parse_under};
-use cam6_table::{Code, ENTRIES, MAX_TURNS, NotCompiled, RuleFault, Table, compile, eval};
+use cam6_table::{Code, ENTRIES, MAX_EVAL_STEPS, NotCompiled, RuleFault, Table, compile, eval};
 use cam6_try_examples::{Sent, add_line, no_memory};
 use cam6_wiring::Wiring;
 use std::alloc::Global;
@@ -126,8 +126,8 @@ fn add_entries(
         if i > 0 {
             answers.push(b' ')?;
         }
-        let mut turns = MAX_TURNS;
-        let entry = match eval(&code, *address, &mut turns) {
+        let mut steps = MAX_EVAL_STEPS;
+        let entry = match eval(&code, *address, &mut steps) {
             Ok(entry) => format!(in alloc; "{entry}")?,
             Err(fault) => rule_fault(alloc, fault)?,
         };

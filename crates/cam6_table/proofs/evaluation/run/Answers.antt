@@ -1,7 +1,7 @@
 use Rattle.std.proofs.Common.{◌≡◌, ◌∙◌, sym, arith, ◌+◌, ◌-◌, suc}
 use Rattle.cam6_wiring.specs.Seen.{shown}
-use Rattle.cam6_table.specs.Codes.{last_of, turns_of}
-use Rattle.cam6_table.proofs.Jumps.{exec-goes_on, turns-go_on}
+use Rattle.cam6_table.specs.Codes.{last_of, steps_of}
+use Rattle.cam6_table.proofs.Jumps.{exec-goes_on, steps-go_on}
 use Rattle.cam6_table.proofs.evaluation.run.Goals as goal
 
 pub loop-behind-preserved : goal.loop-behind-preserved
@@ -14,15 +14,15 @@ loop-behind-preserved c =
     let one : l.behind ≡ l.behind - 1 + 1 = omega arith in
     let fewer = c.saturating_sub-behind.ensures in
     let after = c.saturating_sub-behind.result in
-    let turned : turns_of shows (last_of l.behind code) 0 l.word l.state ≡
-    suc (turns_of shows (last_of after code) 0 next.word c.act.new.state) =
-    turns-go_on shows code l.behind (l.behind - 1) after l.word c.before-in-loop-behind.result
+    let stepped : steps_of shows (last_of l.behind code) 0 l.word l.state ≡
+    suc (steps_of shows (last_of after code) 0 next.word c.act.new.state) =
+    steps-go_on shows code l.behind (l.behind - 1) after l.word c.before-in-loop-behind.result
     l.state c.act.new.state next one (omega arith) fewer front c.in_ok-next.ensures in
     record {
       same = sym (exec-goes_on shows code l.behind (l.behind - 1) after l.word
           c.before-in-loop-behind.result l.state c.act.new.state next one (omega arith) fewer front
           c.in_ok-next.ensures) ∙ l.invariant.same;
-      turned = omega arith;
+      stepped = omega arith;
       within = omega arith;
       left = omega arith;
       limit = omega arith;

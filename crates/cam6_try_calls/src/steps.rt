@@ -1,7 +1,7 @@
-//! The turns that the largest rules take.
+//! The steps that the largest rules take.
 
 use cam6_forth::parse;
-use cam6_table::{Code, MAX_TURNS, eval};
+use cam6_table::{Code, MAX_EVAL_STEPS, eval};
 use cam6_wiring::{Half, Hood, Minor};
 use std::alloc::Global;
 use std::process::Abort;
@@ -15,17 +15,17 @@ const NONE: &str =
     ": A0 ; : A1 A0 A0 ; : A2 A1 A1 ; : A3 A2 A2 ; : A4 A3 A3 ; : A5 A4 A4 ; : A6 A5 A5 ; \
     : A7 A6 A6 ; : A8 A7 A7 ; : A9 A8 A8 ; : A10 A9 A9 ; : A11 A10 A10 ; : A12 A11 A11 ;";
 
-/// The code leaves so many turns, wherever it is evaluated.
+/// The code leaves so many steps, wherever it is evaluated.
 fn check_turns(rt: &impl Abort, code: &Code, left: u32) {
     for (address, want) in [(0, 0), (1, 1), (2, 2), (4095, 3)] {
-        let mut turns = MAX_TURNS;
-        let got = eval(code, address, &mut turns);
+        let mut steps = MAX_EVAL_STEPS;
+        let got = eval(code, address, &mut steps);
         assert_eq!(rt; got, Ok(want), "at {address}");
-        assert_eq!(rt; turns, left, "at {address}");
+        assert_eq!(rt; steps, left, "at {address}");
     }
 }
 
-/// The rule's code leaves so many turns.
+/// The rule's code leaves so many steps.
 fn check_rule(rt: &impl Abort, alloc: Global, text: &str, left: u32) -> Result<(), Fail> {
     let rule = parse(alloc, text, Half::A, Hood::VonNeumann, Minor::Centers)?;
     let code = Code::of(alloc, &rule)?;
@@ -34,7 +34,7 @@ fn check_rule(rt: &impl Abort, alloc: Global, text: &str, left: u32) -> Result<(
 }
 
 #[test]
-fn turns_of_the_largest_rules(rt: HostRuntime) -> Result<(), Fail> {
+fn steps_of_the_largest_rules(rt: HostRuntime) -> Result<(), Fail> {
     check_rule(&rt, rt.alloc(), MOST, 0)?;
-    check_rule(&rt, rt.alloc(), NONE, MAX_TURNS)
+    check_rule(&rt, rt.alloc(), NONE, MAX_EVAL_STEPS)
 }
