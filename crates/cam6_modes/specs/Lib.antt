@@ -1,7 +1,7 @@
--- In the order of reading: Sharing, CommandLine, Slips, Turns, Replays, Statuses.
+-- In the order of reading: Sharing, CommandLine, Slips, Reads, Replays, Statuses.
 pub mod Sharing
 pub mod CommandLine
 pub mod Slips
-pub mod Turns
+pub mod Reads
 pub mod Replays
 pub mod Statuses

@@ -7,7 +7,7 @@
 //! session, and of a host that can't go on (`specs/Statuses.antt`). The contracts of `serve_streams`
 //! and `replay_streams` say what is written for what is read, and that reads run out only if as many
 //! bytes were read (`specs/Replays.antt`). They are those of `serve_alone` and `replay` in
-//! `cam6_session`, with the program's bound on reads (`specs/Turns.antt`).
+//! `cam6_session`, with the program's bound on reads (`specs/Reads.antt`).
 //!
 //! Stands on: `cam6_arguments`, for options and refusals; `cam6_planes`, for the sides;
 //! `cam6_commands`, for the numbers of users and boards; `cam6_cache`, for the number of its tables;

@@ -2,9 +2,9 @@
 ghost use Rattle.std.specs.Prelude.{IfOk};
 ghost use Rattle.cam6_session.specs.Alone.{AnswersReaderAlone};
 ghost use Rattle.cam6_session.specs.Headline.{WritesRepliesAlone};
-ghost use Rattle.cam6_session.specs.Spending.{SpendsItsTurns};
+ghost use Rattle.cam6_session.specs.Spending.{SpendsItsReads};
 ghost use Rattle.cam6_modes.specs.Replays.{AnswersReaderShared, IsNew, WritesOutcomesShared};
-ghost use Rattle.cam6_modes.specs.Turns.{max_turns};
+ghost use Rattle.cam6_modes.specs.Reads.{max_reads};
 
 use crate::modes::Sharing;
 use cam6_core::Core;
@@ -14,7 +14,7 @@ use std::alloc::Global;
 use std::io::{BufRead, Write};
 
 /// Reads of one session at most, that is calls of `fill_buf`.
-const TURNS: u64 = 1_099_511_627_776;
+const READS: u64 = 1_099_511_627_776;
 
 /// Answers each line of the reader by one line, as a blank machine of this limit that gets all
 /// commands among them. Ends if the input ends or something fails.
@@ -30,10 +30,10 @@ pub fn serve_streams<R: BufRead, W: Write>(
     // fault was written, or a prefix of these texts; all of them if the input's end was met.
     ensures headline { WritesRepliesAlone limit result (R.remaining reader.old)
         (W.contents writer.old) (W.contents writer.new) }
-    ensures turns { SpendsItsTurns result max_turns
+    ensures reads_left { SpendsItsReads result max_reads
         (R.remaining reader.old) (R.remaining reader.new) }
 {
-    serve_alone(alloc, limit, reader, writer, TURNS)
+    serve_alone(alloc, limit, reader, writer, READS)
 }
 
 /// Does the event of each line of the reader, and writes its outcome as one line. So many users
@@ -52,13 +52,13 @@ pub fn replay_streams<R: BufRead, W: Write>(
     // private machine to their accepted commands.
     ensures headline { WritesOutcomesShared sharing limit result (R.remaining reader.old)
         (R.remaining reader.new) (W.contents writer.old) (W.contents writer.new) }
-    ensures turns { SpendsItsTurns result max_turns
+    ensures reads_left { SpendsItsReads result max_reads
         (R.remaining reader.old) (R.remaining reader.new) }
 {
     let Ok(mut core) = new_core(alloc, sharing, limit) else {
         return End::NoMemory { done: false };
     };
-    replay(alloc, reader, writer, &mut core, TURNS)
+    replay(alloc, reader, writer, &mut core, READS)
 }
 
 /// A core of users who all have this limit.

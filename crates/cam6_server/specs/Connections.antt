@@ -76,7 +76,7 @@ IsCutShort all remaining =
 abbrev pub BeginsLongLoad : List ℕ → Type 0
 BeginsLongLoad all = (line unread : List ℕ) × IsFirst all line unread × IsLongLoad line
 
--- why no first line is answered: the input has none; a read failed within it, or the turns ran out;
+-- why no first line is answered: the input has none; a read failed within it, or the reads ran out;
 -- or an allocation failed, for reading any line, for this one, or for the rest of a long load
 abbrev pub IsSilent : End → List ℕ → Option (List ℕ) → Type 0
 IsSilent EndOfInput all remaining = all ≡ []

@@ -20,7 +20,7 @@ use std::alloc::Global;
 use std::io::{BufRead, Write};
 
 /// How often at most a session looks at its reader. The same bound holds for a first line.
-const TURNS: u64 = 1_099_511_627_776;
+const READS: u64 = 1_099_511_627_776;
 
 /// How a connection went.
 #[derive(Clone, Copy, Debug, PartialEq, Eq)]
@@ -74,8 +74,8 @@ fn first_line<R: BufRead>(alloc: Global, reader: &mut R) -> Result<Result<u64, L
     let Ok(mut line) = LineBuf::new(alloc) else {
         return Err(End::NoMemory { done: false });
     };
-    let mut turns = TURNS;
-    match next_line_within(reader, &mut line, &mut turns) {
+    let mut reads_left = READS;
+    match next_line_within(reader, &mut line, &mut reads_left) {
         Line::Ended | Line::Last => answerable(alloc, &line),
         Line::EndOfInput => Err(End::EndOfInput),
         Line::ReadFault => Err(End::ReadFault),
@@ -157,7 +157,7 @@ fn sit_down<R: BufRead, W: Write, D: Ask>(
         (D.stands_at desk.old) (D.stands_at desk.new) }
 {
     match send(writer, seating_line(Seating::Seated).as_bytes()) {
-        Ok(()) => Visit::Served(answer_lines(alloc, reader, writer, desk, TURNS)),
+        Ok(()) => Visit::Served(answer_lines(alloc, reader, writer, desk, READS)),
         Err(_) => Visit::Unheard,
     }
 }

@@ -89,7 +89,7 @@ module _ {S : Type 0} (by : Answering S) where
     lines_done : (rest : List ℕ) → lines (joined run.done ++ rest) ≡ run.done ++ lines rest
     lines_done rest = split.lines_joined run.done rest run.free
 
-    -- the reader ended, or failed, or the turns ran out
+    -- the reader ended, or failed, or the reads ran out
     pub ends_input : Reads read.EndOfInput remaining after held
         → AnswersReader by end.EndOfInput (Some all) after (Some out) new s t
     ends_input reads =

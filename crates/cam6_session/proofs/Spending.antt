@@ -11,10 +11,10 @@ use Rattle.cam6_session.specs.declared.lines.Part.{Part}
 use Rattle.cam6_session.specs.declared.lines.Part.TheVariants.{More, Newline}
 use Rattle.cam6_session.proofs.Parts.{HasRead}
 
-module _ (before turns : ℕ) (some : 0 < turns) (held kept : Held) where
+module _ (before reads_left : ℕ) (some : 0 < reads_left) (held kept : Held) where
   took_one : (part : Part) (old now new : Option (List ℕ)) → HasRead old now held
       → (look : TakesPart part now new held kept) → 0 < length (look.part ++ ending part)
-      → TookAsMany before turns old now → TookAsMany before (turns - 1) old new
+      → TookAsMany before reads_left old now → TookAsMany before (reads_left - 1) old new
   took_one part None now new read look one many = tt
   took_one part (Some all) None new read look one many = absurd read.taken
   took_one part (Some all) (Some remaining) None read look one many = tt
@@ -23,13 +23,13 @@ module _ (before turns : ℕ) (some : 0 < turns) (held kept : Held) where
 
   pub took_more : (old now new : Option (List ℕ)) → HasRead old now held
       → TakesPart More now new held kept
-      → TookAsMany before turns old now → TookAsMany before (turns - 1) old new
+      → TookAsMany before reads_left old now → TookAsMany before (reads_left - 1) old new
   took_more old now new read look =
       took_one More old now new read look (rw append-nil (look.more refl))
 
   pub took_newline : (old now new : Option (List ℕ)) → HasRead old now held
       → TakesPart Newline now new held kept
-      → TookAsMany before turns old now → TookAsMany before (turns - 1) old new
+      → TookAsMany before reads_left old now → TookAsMany before (reads_left - 1) old new
   took_newline old now new read look =
       took_one Newline old now new read look (simp length-append (omega arith))
 

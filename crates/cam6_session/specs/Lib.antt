@@ -1,5 +1,5 @@
 -- In the order of reading: the lines of a text, what is kept of a line, reading one, the bytes that
--- turns take; ways of answering lines, answering one, how serving ends, what the machine
+-- reads take; ways of answering lines, answering one, how serving ends, what the machine
 -- answers, and the machine at which a desk stands; a private session and its main theorem; what a
 -- core answers, and what a replay writes; and the laws.
 pub mod Lines

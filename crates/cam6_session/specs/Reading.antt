@@ -83,10 +83,10 @@ ReadsTo ToItsEnd result old new held = Reads result old new held
 ReadsTo UntilTooLong result old new held = ReadsWithin result old new held
 
 -- a line takes a turn or more, and the bound is met if none is left
-abbrev pub Turns : Line → ℕ → ℕ → Type 0
-Turns Ended old new = new < old
-Turns Last old new = new < old
-Turns EndOfInput old new = new < old
-Turns ReadFault old new = new < old
-Turns TurnBound old new = new ≡ 0
-Turns NoMemory old new = new < old
+abbrev pub CountsReads : Line → ℕ → ℕ → Type 0
+CountsReads Ended old new = new < old
+CountsReads Last old new = new < old
+CountsReads EndOfInput old new = new < old
+CountsReads ReadFault old new = new < old
+CountsReads TurnBound old new = new ≡ 0
+CountsReads NoMemory old new = new < old

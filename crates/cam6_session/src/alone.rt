@@ -1,7 +1,7 @@
 //! A session with a private machine.
 ghost use Rattle.cam6_session.specs.Alone.{AnswersReaderAlone};
 ghost use Rattle.cam6_session.specs.Headline.{WritesRepliesAlone};
-ghost use Rattle.cam6_session.specs.Spending.{SpendsItsTurns};
+ghost use Rattle.cam6_session.specs.Spending.{SpendsItsReads};
 
 use crate::sessions::{End, serve};
 use cam6_machine::Machine;
@@ -11,13 +11,13 @@ use std::io::{BufRead, Write};
 
 /// Answers each line of the reader by one line, as a blank machine of this limit that gets all
 /// commands among them. Ends if the input ends, if something fails, or if the reads run out. Each
-/// call of `fill_buf` takes one of `turns`.
+/// call of `fill_buf` takes one of `reads_left`.
 pub fn serve_alone<R: BufRead, W: Write>(
     alloc: Global,
     limit: Side,
     reader: &mut R,
     writer: &mut W,
-    turns: u64,
+    reads_left: u64,
 ) -> End
     ensures served { AnswersReaderAlone limit result (R.remaining reader.old)
         (R.remaining reader.new) (W.contents writer.old) (W.contents writer.new) }
@@ -25,11 +25,11 @@ pub fn serve_alone<R: BufRead, W: Write>(
     // fault was written, or a prefix of these texts; all of them if the input's end was met.
     ensures headline { WritesRepliesAlone limit result (R.remaining reader.old)
         (W.contents writer.old) (W.contents writer.new) }
-    ensures turns { SpendsItsTurns result turns
+    ensures reads_left { SpendsItsReads result reads_left
         (R.remaining reader.old) (R.remaining reader.new) }
 {
     let Ok(mut machine) = Machine::new(alloc, limit) else {
         return End::NoMemory { done: false };
     };
-    serve(alloc, reader, writer, &mut machine, turns)
+    serve(alloc, reader, writer, &mut machine, reads_left)
 }

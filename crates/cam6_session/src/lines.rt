@@ -2,7 +2,7 @@
 ghost use Rattle.std.specs.Prelude.{◌≡◌, ◌<◌, ◌≤◌, if◌then◌else◌, length, take, slice_index};
 ghost use Rattle.cam6_session.specs.Held.{is_empty};
 ghost use Rattle.cam6_wire.specs.OneLine.{HasNoLf};
-ghost use Rattle.cam6_session.specs.Reading.{Reads, ReadsTo, ReadsWithin, TakesPart, Turns};
+ghost use Rattle.cam6_session.specs.Reading.{Reads, ReadsTo, ReadsWithin, TakesPart, CountsReads};
 ghost use Rattle.cam6_session.specs.Spending.{TakesAByteEach};
 
 use crate::line_buffer::LineBuf;
@@ -36,25 +36,29 @@ enum Part {
 }
 
 /// Reads one line into `line`, without its LF, in place of what was there. Each call of `fill_buf`
-/// takes one of `turns`.
-pub fn next_line<R: BufRead>(reader: &mut R, line: &mut LineBuf, turns: &mut u64) -> Line
+/// takes one of `reads_left`.
+pub fn next_line<R: BufRead>(reader: &mut R, line: &mut LineBuf, reads_left: &mut u64) -> Line
     ensures line { Reads result (R.remaining reader.old) (R.remaining reader.new) line.new }
-    ensures turns { Turns result turns.old turns.new }
-    ensures bytes { TakesAByteEach result turns.old turns.new
+    ensures reads_left { CountsReads result reads_left.old reads_left.new }
+    ensures bytes { TakesAByteEach result reads_left.old reads_left.new
         (R.remaining reader.old) (R.remaining reader.new) }
 {
-    read_line(reader, line, turns, Extent::ToItsEnd)
+    read_line(reader, line, reads_left, Extent::ToItsEnd)
 }
 
 /// Reads one line. Of a line that is too long it reads only enough to know that. Then it returns
-/// `Line::Ended`, and the line's rest is unread. Each call of `fill_buf` takes one of `turns`.
-pub fn next_line_within<R: BufRead>(reader: &mut R, line: &mut LineBuf, turns: &mut u64) -> Line
+/// `Line::Ended`, and the line's rest is unread. Each call of `fill_buf` takes one of `reads_left`.
+pub fn next_line_within<R: BufRead>(
+    reader: &mut R,
+    line: &mut LineBuf,
+    reads_left: &mut u64,
+) -> Line
     ensures line { ReadsWithin result (R.remaining reader.old) (R.remaining reader.new) line.new }
-    ensures turns { Turns result turns.old turns.new }
-    ensures bytes { TakesAByteEach result turns.old turns.new
+    ensures reads_left { CountsReads result reads_left.old reads_left.new }
+    ensures bytes { TakesAByteEach result reads_left.old reads_left.new
         (R.remaining reader.old) (R.remaining reader.new) }
 {
-    read_line(reader, line, turns, Extent::UntilTooLong)
+    read_line(reader, line, reads_left, Extent::UntilTooLong)
 }
 
 /// How far a line is read.
@@ -83,18 +87,18 @@ impl Extent {
 fn read_line<R: BufRead>(
     reader: &mut R,
     line: &mut LineBuf,
-    turns: &mut u64,
+    reads_left: &mut u64,
     extent: Extent,
 ) -> Line
     ensures line { ReadsTo extent result
         (R.remaining reader.old) (R.remaining reader.new) line.new }
-    ensures turns { Turns result turns.old turns.new }
-    ensures bytes { TakesAByteEach result turns.old turns.new
+    ensures reads_left { CountsReads result reads_left.old reads_left.new }
+    ensures bytes { TakesAByteEach result reads_left.old reads_left.new
         (R.remaining reader.old) (R.remaining reader.new) }
 {
     line.clear();
-    while *turns > 0 {
-        *turns -= 1;
+    while *reads_left > 0 {
+        *reads_left -= 1;
         match take_part(reader, line) {
             Part::More => {
                 if extent.is_met(line) {

@@ -11,7 +11,7 @@ ghost use Rattle.cam6_session.specs.Held.{Holds};
 ghost use Rattle.cam6_session.specs.Replays.{WritesOutcomes};
 ghost use Rattle.cam6_session.specs.Responding.{Responds, TakesMemory, TellsText};
 ghost use Rattle.cam6_session.specs.Sessions.{AnswersReader};
-ghost use Rattle.cam6_session.specs.Spending.{SpendsItsTurns};
+ghost use Rattle.cam6_session.specs.Spending.{SpendsItsReads};
 
 use crate::answerers::{Answerer, tell, tell_fault};
 use crate::line_buffer::LineBuf;
@@ -24,13 +24,13 @@ use std::alloc::Global;
 use std::io::{BufRead, Write};
 
 /// Does the event of each line of the reader, and writes its outcome as one line. Ends if the input
-/// ends, if something fails, or if the reads run out. Each call of `fill_buf` takes one of `turns`.
+/// ends, if something fails, or if the reads run out. Each call of `fill_buf` takes one of `reads_left`.
 pub fn replay<R: BufRead, W: Write>(
     alloc: Global,
     reader: &mut R,
     writer: &mut W,
     core: &mut Core,
-    turns: u64,
+    reads_left: u64,
 ) -> End
     ensures served { AnswersReader by_core result
         (R.remaining reader.old) (R.remaining reader.new)
@@ -39,10 +39,10 @@ pub fn replay<R: BufRead, W: Write>(
     // machine.
     ensures headline { WritesOutcomes result (R.remaining reader.old)
         (W.contents writer.old) (W.contents writer.new) core.old core.new }
-    ensures turns { SpendsItsTurns result turns
+    ensures reads_left { SpendsItsReads result reads_left
         (R.remaining reader.old) (R.remaining reader.new) }
 {
-    answer_lines(alloc, reader, writer, core, turns)
+    answer_lines(alloc, reader, writer, core, reads_left)
 }
 
 /// A core answers lines of events.

@@ -2,7 +2,7 @@
 ghost use Rattle.std.specs.Prelude.{◌≡◌, ℕ};
 ghost use Rattle.cam6_session.specs.Answers.{by_machine};
 ghost use Rattle.cam6_session.specs.Sessions.{AnswersReader};
-ghost use Rattle.cam6_session.specs.Spending.{SpendsItsTurns};
+ghost use Rattle.cam6_session.specs.Spending.{SpendsItsReads};
 
 use crate::answerers::Answerer;
 use crate::desks::Ask;
@@ -69,13 +69,13 @@ impl From<Stop> for End {
 
 /// Answers each line of the reader by one line, as a machine that gets all commands among them.
 /// Ends if the input ends, if something fails, or if the reads run out. Each call of `fill_buf`
-/// takes one of `turns`.
+/// takes one of `reads_left`.
 pub fn serve<R: BufRead, W: Write, D: Ask>(
     alloc: Global,
     reader: &mut R,
     writer: &mut W,
     desk: &mut D,
-    turns: u64,
+    reads_left: u64,
 ) -> End
     requires { D.is_ready desk.old }
     ensures ready { D.is_ready desk.new }
@@ -84,20 +84,20 @@ pub fn serve<R: BufRead, W: Write, D: Ask>(
         (R.remaining reader.old) (R.remaining reader.new)
         (W.contents writer.old) (W.contents writer.new)
         (D.stands_at desk.old) (D.stands_at desk.new) }
-    ensures turns { SpendsItsTurns result turns
+    ensures reads_left { SpendsItsReads result reads_left
         (R.remaining reader.old) (R.remaining reader.new) }
 {
-    answer_lines(alloc, reader, writer, desk, turns)
+    answer_lines(alloc, reader, writer, desk, reads_left)
 }
 
 /// Answers each line of the reader by one line. Ends if the input ends, if something fails, or if
-/// the reads run out. Each call of `fill_buf` takes one of `turns`.
+/// the reads run out. Each call of `fill_buf` takes one of `reads_left`.
 pub fn answer_lines<R: BufRead, W: Write, A: Answerer>(
     alloc: Global,
     reader: &mut R,
     writer: &mut W,
     answerer: &mut A,
-    turns: u64,
+    reads_left: u64,
 ) -> End
     requires { A.may_answer answerer.old }
     ensures ready { A.may_answer answerer.new }
@@ -106,15 +106,15 @@ pub fn answer_lines<R: BufRead, W: Write, A: Answerer>(
         (R.remaining reader.old) (R.remaining reader.new)
         (W.contents writer.old) (W.contents writer.new)
         (A.asked answerer.old) (A.asked answerer.new) }
-    ensures turns { SpendsItsTurns result turns
+    ensures reads_left { SpendsItsReads result reads_left
         (R.remaining reader.old) (R.remaining reader.new) }
 {
     let Ok(mut line) = LineBuf::new(alloc) else {
         return End::NoMemory { done: false };
     };
-    let mut turns_left = turns;
+    let mut left = reads_left;
     loop {
-        match next_line(reader, &mut line, &mut turns_left) {
+        match next_line(reader, &mut line, &mut left) {
             Line::EndOfInput => return End::EndOfInput,
             Line::ReadFault => return End::ReadFault,
             Line::TurnBound => return End::TurnBound,

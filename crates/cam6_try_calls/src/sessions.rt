@@ -57,12 +57,12 @@ fn is_reply_after(lines: usize, reply: &Reply) -> bool {
 /// stands where it should.
 type Came = (End, bool, bool);
 
-/// How a session goes: how its lines are shown, its turns, and after how many calls its writer fails.
+/// How a session goes: how its lines are shown, its reads, and after how many calls its writer fails.
 #[derive(Clone, Copy)]
 struct Way {
     at_once: usize,
     looks: usize,
-    turns: u64,
+    reads_left: u64,
     calls: usize,
     failure: Failure,
 }
@@ -70,7 +70,7 @@ struct Way {
 const WELL: Way = Way {
     at_once: 1_000,
     looks: 1_000,
-    turns: 1_000,
+    reads_left: 1_000,
     calls: 1_000,
     failure: Failure::Error,
 };
@@ -95,19 +95,19 @@ fn session_at(alloc: Global, way: Way, want: &[u8], lines: usize, desk: &mut Des
         calls: way.calls,
         failure: way.failure,
     };
-    let end = serve(alloc, &mut reader, &mut writer, desk, way.turns);
+    let end = serve(alloc, &mut reader, &mut writer, desk, way.reads_left);
     let is_written = writer.bytes.as_slice() == want;
     (end, is_written, stands_after(lines, &mut desk.machine))
 }
 
 // By hand: each line takes a look for each of its bytes, or for every three and what is left of
-// them, the LF among them; the last takes one more, which shows the input's end. So many turns end a
+// them, the LF among them; the last takes one more, which shows the input's end. So many reads end a
 // session where so many looks do.
 #[test]
 fn readers_fail_at_each_call(rt: HostRuntime) -> Result<(), Fail> {
     for (at_once, marks) in [(1, [19, 24, 93, 112]), (3, [7, 9, 32, 39])] {
         for calls in 0..114u16 {
-            let (looks, turns) = (usize::from(calls), u64::from(calls));
+            let (looks, reads_left) = (usize::from(calls), u64::from(calls));
             let lines = reached(&marks, looks);
             for (way, end) in [
                 (
@@ -121,7 +121,7 @@ fn readers_fail_at_each_call(rt: HostRuntime) -> Result<(), Fail> {
                 (
                     Way {
                         at_once,
-                        turns,
+                        reads_left,
                         ..WELL
                     },
                     End::TurnBound,

@@ -9,7 +9,7 @@ use std::io;
 use std::io::{ErrorKind, Write};
 
 /// The most looks at the lines in a session.
-const TURNS: u64 = 1_099_511_627_776;
+const READS: u64 = 1_099_511_627_776;
 
 /// How often the lines are begun at most.
 const TIMES: u32 = 10;
@@ -56,7 +56,7 @@ fn answer_from<W: Write>(
     for _ in 0..TIMES {
         writer.lines = 0;
         let mut reader = rest;
-        match serve(alloc, &mut reader, &mut writer, machine, TURNS) {
+        match serve(alloc, &mut reader, &mut writer, machine, READS) {
             End::EndOfInput => return Ok(()),
             End::NoMemory { done } => {
                 rest = behind(rest, writer.lines.saturating_add(usize::from(done)));

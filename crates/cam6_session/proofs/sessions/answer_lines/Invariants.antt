@@ -10,9 +10,9 @@ invariant-loop-line g l = record {
   runs : Runs g.A.Answerer.answering (g.R.Read.remaining l.fn.reader) (g.R.Read.remaining l.reader)
       (g.W.Write.contents l.fn.writer) (g.W.Write.contents l.writer)
       (g.A.Answerer.asked l.fn.answerer) (g.A.Answerer.asked l.answerer);
-  spent : Spent l.fn.turns l.turns_left (g.R.Read.remaining l.fn.reader)
+  spent : Spent l.fn.reads_left l.left (g.R.Read.remaining l.fn.reader)
       (g.R.Read.remaining l.reader);
 }
 
 abbrev pub decreases-loop-line : goal.decreases-loop-line
-decreases-loop-line g l = l.turns_left
+decreases-loop-line g l = l.left

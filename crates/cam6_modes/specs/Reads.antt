@@ -2,5 +2,5 @@
 use Rattle.std.specs.Prelude.{ℕ}
 
 -- the looks at standard input, at most
-abbrev pub max_turns : ℕ
-max_turns = 1099511627776
+abbrev pub max_reads : ℕ
+max_reads = 1099511627776
