@@ -24,7 +24,7 @@ use Rattle.cam6_handoff.specs.Steps.{SitTells}
 use Rattle.cam6_handoff.specs.declared.rule.View.{View}
 use Rattle.cam6_handoff.specs.declared.rule.View.TheVariants.{First, Unseated, Rests, Waits, Idle}
 use Rattle.cam6_handoff.specs.declared.rule.View.TheVariants.{Holds}
-use Rattle.cam6_handoff.proofs.Rows.{clash, self_eqb, one_at, moved, Turns, same_set, same_snoc}
+use Rattle.cam6_handoff.proofs.Rows.{clash, self_eqb, one_at, moved, Changes, same_set, same_snoc}
 use Rattle.cam6_handoff.proofs.Rows.{same_after, SameBy, only, no_one, carry}
 
 other_eqb : (u x : ℕ) → x ≢ u → eqb u x ≡ false
@@ -165,16 +165,16 @@ module _ (ws : List ℕ) (hs : List (maybe.Option Slot)) (vs : List View) (u id 
         nb,
       )
 
-put_turns : (u : ℕ) (asked : QueuedPlace) → Turns u (Rests u) (Waits u asked)
-put_turns u asked = record {
+put_changes : (u : ℕ) (asked : QueuedPlace) → Changes u (Rests u) (Waits u asked)
+put_changes u asked = record {
   desk = λ x. refl;
   others = λ x ne.
       (other_eqb u x ne, refl, refl);
   not_first = (refl, refl);
 }
 
-collect_turns : (u : ℕ) (asked : QueuedPlace) → Turns u (Waits u asked) (Rests u)
-collect_turns u asked =
+collect_changes : (u : ℕ) (asked : QueuedPlace) → Changes u (Waits u asked) (Rests u)
+collect_changes u asked =
     record {
       desk = λ x. refl;
       others = λ x ne. (other_eqb u x ne, refl, refl);
@@ -182,24 +182,24 @@ collect_turns u asked =
           (refl, refl);
     }
 
-sit_turns : (u : ℕ) → Turns u (Unseated u) (Rests u)
-sit_turns u = record {
+sit_changes : (u : ℕ) → Changes u (Unseated u) (Rests u)
+sit_changes u = record {
   desk = λ x. refl;
   others = λ x ne.
       (other_eqb u x ne, refl, refl);
   not_first = (refl, refl);
 }
 
-take_turns : (b u : ℕ) (q : QueuedPlace) → Turns u (Idle b) (Holds b u q)
-take_turns b u q = record {
+take_changes : (b u : ℕ) (q : QueuedPlace) → Changes u (Idle b) (Holds b u q)
+take_changes b u q = record {
   desk = λ x. refl;
   others = λ x ne.
       (refl, refl, other_eqb u x ne);
   not_first = (refl, refl);
 }
 
-give_turns : (b u : ℕ) (q : QueuedPlace) → Turns u (Holds b u q) (Idle b)
-give_turns b u q = record {
+give_changes : (b u : ℕ) (q : QueuedPlace) → Changes u (Holds b u q) (Idle b)
+give_changes b u q = record {
   desk = λ x. refl;
   others = λ x ne.
       (refl, other_eqb u x ne, refl);
@@ -246,7 +246,7 @@ module _ (users : ℕ) where
       let wide : u < length s.words = (let e = r.words in omega arith) in
       let wide' : u < length s.homes = (let e = r.slots in omega arith) in
       moved users s r u n id (Rests u) w (set s.homes u (some (Some (Queued q)))) at
-      (put_turns u q) (length-set s.homes u _) (λ j ne. set_else s.homes u j _ ne)
+      (put_changes u q) (length-set s.homes u _) (λ j ne. set_else s.homes u j _ ne)
       (queued id q q (get_or-set_same s.words u n 0 wide ∙ is) (set_here s.homes u _ wide') st
       (at_here s.views id (Rests u) w at, only_kept (is_desk_of u) s.views id w id row.2 refl)
       (none_kept (is_board_of u) s.views id w row.3 refl))
@@ -279,7 +279,7 @@ module _ (users : ℕ) where
       let wide : u < length s.words = (let e = r.words in omega arith) in
       let wide' : u < length s.homes = (let e = r.slots in omega arith) in
       moved users s r u n id (Holds b u q) (Idle b) (set s.homes u (some (Some (Queued q')))) at
-      (give_turns b u q) (length-set s.homes u _) (λ j ne. set_else s.homes u j _ ne)
+      (give_changes b u q) (length-set s.homes u _) (λ j ne. set_else s.homes u j _ ne)
       (queued t.0 t.1 q' (get_or-set_same s.words u n 0 wide ∙ is)
       (set_here s.homes u _ wide') (law t.1 t.2)
       (other_desk s id b u q t.0 t.1 (Idle b) at refl t.3)
@@ -307,7 +307,7 @@ module _ (users : ℕ) where
       let wide : u < length s.words = (let e = r.words in omega arith) in
       let wide' : u < length s.homes = (let e = r.slots in omega arith) in
       moved users s r u n id (Holds b u q) (Idle b) (set s.homes u (some (Some (Finished f)))) at
-      (give_turns b u q) (length-set s.homes u _) (λ j ne. set_else s.homes u j _ ne)
+      (give_changes b u q) (length-set s.homes u _) (λ j ne. set_else s.homes u j _ ne)
       (finished t.0 t.1 f (get_or-set_same s.words u n 0 wide ∙ is)
       (set_here s.homes u _ wide') (law t.1 t.2)
       (other_desk s id b u q t.0 t.1 (Idle b) at refl t.3)
@@ -335,7 +335,7 @@ module _ (users : ℕ) where
       let row = ready_row s.words s.homes s.views u id one (r.rows u small) in
       let k = row.5 in
       let same : row.2 ≡ q = there row.2 (sym row.3 ∙ home) in
-      moved users s r u n id (Idle b) (Holds b u q) (set s.homes u none) at (take_turns b u q)
+      moved users s r u n id (Idle b) (Holds b u q) (set s.homes u none) at (take_changes b u q)
       (length-set s.homes u _) (λ j ne. set_else s.homes u j _ ne)
       (out row.0 id b row.1 q (get_or-set_same s.words u n 0 wide ∙ is)
       (set_here s.homes u none (let e = r.slots in omega arith))
@@ -382,7 +382,7 @@ module _ (users : ℕ) where
       let wide : u < length s.words = (let e = r.words in omega arith) in
       let row = done_row s.words s.homes s.views u id asked at two (r.rows u small) in
       moved users s r u n id (Waits u asked) (Rests u) (set s.homes u none) at
-      (collect_turns u asked) (length-set s.homes u _) (λ j ne. set_else s.homes u j _ ne)
+      (collect_changes u asked) (length-set s.homes u _) (λ j ne. set_else s.homes u j _ ne)
       (resting id (get_or-set_same s.words u n 0 wide ∙ is)
       (set_here s.homes u none (let e = r.slots in omega arith)) (
         at_here s.views id (Waits u asked) _ at,
@@ -425,7 +425,7 @@ module _ (users : ℕ) where
   sit_keeps s r u id small at = let x : ℕ = get_or s.words u 0 in
       let wide : u < length s.words = (let e = r.words in omega arith) in let row =
       unseated_row s.words s.homes s.views u id at (r.rows u small) in
-      moved users s r u x id (Unseated u) (Rests u) (set s.homes u none) at (sit_turns u)
+      moved users s r u x id (Unseated u) (Rests u) (set s.homes u none) at (sit_changes u)
       (length-set s.homes u _) (λ j ne. set_else s.homes u j _ ne)
       (resting id (get_or-set_same s.words u x 0 wide ∙ row.0)
       (set_here s.homes u none (let e = r.slots in omega arith)) (

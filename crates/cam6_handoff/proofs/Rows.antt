@@ -78,14 +78,14 @@ module _ (ws : List ℕ) (hs : List (maybe.Option Slot)) (vs : List View) (ws' :
       (no_one (is_board_of u) vs vs' sb nb)
 
 -- what one step of the user u may change of a view
-pub record Turns (u : ℕ) (v w : View) : Type 0 where
+pub record Changes (u : ℕ) (v w : View) : Type 0 where
   pub desk : (x : ℕ) → is_desk_of x w ≡ is_desk_of x v
   pub others : (x : ℕ) → x ≢ u → (is_desk_of x v ≡ false) × (is_board_of x v ≡ false) ×
       (is_board_of x w ≡ false)
   pub not_first : (is_first v ≡ false) × (is_first w ≡ false)
 
 pub moved : (users : ℕ) (s : Shared) (r : Rule users s) (u n id : ℕ) (v w : View)
-    (hs : List (maybe.Option Slot)) → At s.views id v → Turns u v w
+    (hs : List (maybe.Option Slot)) → At s.views id v → Changes u v w
     → length hs ≡ length s.homes → ((j : ℕ) → j ≢ u → get_elem? hs j ≡ get_elem? s.homes j)
     → Row (set s.words u n) hs (set s.views id w) u →
     Rule users record { words = set s.words u n; homes = hs; views = set s.views id w }

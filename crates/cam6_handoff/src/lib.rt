@@ -29,17 +29,17 @@
 //! `cam6_commands`, `cam6_model` and `cam6_planes`, and `atomic_table`.
 //!
 //! Read next: `rule`; `steps`, one function for each kind; `start`, with the cutting of seats;
-//! `desks`; `seats`, with `turns`; then `queues`; and `laws`.
+//! `desks`; `seats`, with `permits`; then `queues`; and `laws`.
 #![tactic(auto)]
 
 mod desks;
 pub mod laws;
+mod permits;
 mod queues;
 mod rule;
 mod seats;
 mod start;
 mod steps;
-mod turns;
 
 pub use cam6_commands::{MAX_BOARDS, MAX_USERS};
 pub use desks::{Desk, Put};

@@ -3,8 +3,8 @@ ghost use Rattle.std.specs.Prelude.{◌≡◌};
 ghost use Rattle.std.specs.Arc.{arc_value};
 
 use crate::desks::HandTable;
+use crate::permits::FillPermit;
 use crate::steps;
-use crate::turns::Turns;
 use std::sync::Arc;
 
 /// A look at the words of a table, by any thread. What it returns may already have changed.
@@ -12,7 +12,7 @@ use std::sync::Arc;
 pub struct Queue {
     table: Arc<HandTable>,
     users: usize,
-    turns: Arc<Turns>,
+    permit: Arc<FillPermit>,
     ghost words: { (arc_value table).shared.table_id.words ≡ users },
 }
 
@@ -23,7 +23,7 @@ impl Queue {
     pub fn has_other(&self, user: Option<usize>) -> bool {
         for row in 0..self.users {
             let is_ready = self.table.shared.peek(row) == steps::READY;
-            if user != Some(row + 1) && is_ready && !self.turns.holds_back(row) {
+            if user != Some(row + 1) && is_ready && !self.permit.holds_back(row) {
                 return true;
             }
         }
@@ -32,12 +32,12 @@ impl Queue {
 }
 
 /// A look at a table of so many users.
-pub(crate) fn queue_of(table: Arc<HandTable>, users: usize, turns: Arc<Turns>) -> Queue
+pub(crate) fn queue_of(table: Arc<HandTable>, users: usize, permit: Arc<FillPermit>) -> Queue
     requires { (arc_value table).shared.table_id.words ≡ users }
 {
     Queue {
         table,
         users,
-        turns,
+        permit,
     }
 }

@@ -9,10 +9,10 @@ ghost use Rattle.cam6_handoff.specs.Holding.{nothing};
 ghost use Rattle.cam6_handoff.specs.Internal.Chairs.{BoardChair};
 
 use crate::desks::HandTable;
+use crate::permits::FillPermit;
 use crate::queues::{Queue, queue_of};
 use crate::steps;
 use crate::steps::Chair;
-use crate::turns::Turns;
 use cam6_board::{Job, Tables};
 use cam6_cache::TableCache;
 use cam6_planes::NoMemory;
@@ -31,7 +31,7 @@ pub struct BoardSeat {
     /// The row of the user whose place was taken.
     taken: Option<usize>,
     filling: Filling,
-    turns: Arc<Turns>,
+    permit: Arc<FillPermit>,
 }
 
 /// The most tables that a command makes without the permit to fill.
@@ -76,8 +76,8 @@ impl BoardSeat {
     /// Returns a look at the commands that wait, for whatever decides when to preempt a board.
     pub fn queue(&self) -> Result<Queue, NoMemory> {
         let table = Arc::clone(&self.table)?;
-        let turns = Arc::clone(&self.turns)?;
-        Ok(queue_of(table, self.users, turns))
+        let permit = Arc::clone(&self.permit)?;
+        Ok(queue_of(table, self.users, permit))
     }
 
     /// Takes the command of `user`, counted from 1, if it waits for a board, and returns it to be
@@ -137,33 +137,37 @@ impl BoardSeat {
         let Some(row) = self.taken else {
             return false;
         };
-        let most = if self.turns.is_dear(row) { 0 } else { FEW };
-        let (next, few) = fill_until(rt, &self.turns, &mut self.filling, lease, 0, most, cache);
+        let most = if self.permit.is_expensive(row) {
+            0
+        } else {
+            FEW
+        };
+        let (next, few) = fill_at_most(rt, &self.permit, &mut self.filling, lease, 0, most, cache);
         if next == lease.needs() {
             return true;
         }
-        if !self.turns.try_take() {
-            self.turns.note(row, true);
+        if !self.permit.try_take() {
+            self.permit.note(row, true);
             return false;
         }
-        let (_, rest) = fill_until(
+        let (_, rest) = fill_at_most(
             rt,
-            &self.turns,
+            &self.permit,
             &mut self.filling,
             lease,
             next,
             u8::MAX,
             cache,
         );
-        self.turns.give_back();
-        self.turns.note(row, few + rest > FEW);
+        self.permit.give_back();
+        self.permit.note(row, few + rest > FEW);
         true
     }
 
     /// Whether the user's command, if it waits, must wait longer: another seat makes many tables,
     /// and the user's last command made many too.
     pub fn is_held_back(&self, user: User) -> bool {
-        self.turns.holds_back(user.row())
+        self.permit.holds_back(user.row())
     }
 
     /// The tables that were filled last.
@@ -177,9 +181,9 @@ impl BoardSeat {
 /// Fills the tables of a lease from an index on, each under the cache's lock, until the cache lacked
 /// `most` of them. Returns the index after them, and how many the cache lacked. A seat that waits for
 /// the lock has it before one that has already had it.
-fn fill_until<R: Wait>(
+fn fill_at_most<R: Wait>(
     rt: &R,
-    turns: &Turns,
+    permit: &FillPermit,
     filling: &mut Filling,
     lease: &Lease,
     from: u8,
@@ -198,7 +202,7 @@ fn fill_until<R: Wait>(
         if lacked == most {
             return (index, lacked);
         }
-        let next = turns.next.lock(rt);
+        let next = permit.next.lock(rt);
         let mut cache = cache.lock(rt);
         drop(next);
         if !filling.fill_one(&mut cache, lease, index) {
@@ -215,7 +219,7 @@ pub(crate) fn seat_of(
     board: u8,
     users: usize,
     filling: Filling,
-    turns: Arc<Turns>,
+    permit: Arc<FillPermit>,
 ) -> BoardSeat
     requires { BoardChair (arc_value table).shared.table_id (arc_value table).shared.key.users
         users seat.table_id board None seat.me }
@@ -228,6 +232,6 @@ pub(crate) fn seat_of(
         users,
         taken: None,
         filling,
-        turns,
+        permit,
     }
 }

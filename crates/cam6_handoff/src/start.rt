@@ -11,11 +11,11 @@ ghost use Rattle.cam6_handoff.specs.Internal.Cutting.{behind_board, new_board};
 ghost use Rattle.cam6_handoff.specs.declared.rule.View.TheVariants.{First};
 
 use crate::desks::{Desk, HandTable, desk_of};
+use crate::permits::FillPermit;
 use crate::rule::{Counts, View};
 use crate::seats::{BoardSeat, seat_of};
 use crate::steps;
 use crate::steps::Chair;
-use crate::turns::Turns;
 use atomic_table::{Split, Table};
 use cam6_commands::MAX_USERS;
 use cam6_machine::Machine;
@@ -63,7 +63,7 @@ fn cut_board(
     users: usize,
     board: u8,
     filling: Filling,
-    turns: Arc<Turns>,
+    permit: Arc<FillPermit>,
 ) -> BoardSeat
     requires of { IsFirstOf (arc_value table).shared.table_id users first.old.table_id }
     requires users { (arc_value table).shared.key.users ≡ users }
@@ -75,7 +75,7 @@ fn cut_board(
     ensures seat { IsSeatOf board users result }
 {
     let seat = table.shared.split_seat::<BoardCut>(first);
-    seat_of(table, seat, board, users, filling, turns)
+    seat_of(table, seat, board, users, filling, permit)
 }
 
 /// Cuts a desk for each user, with a blank machine of their limit.
@@ -159,8 +159,8 @@ fn cut_seats(
     ensures { IfOk result (λ seats. AreIdleSeats boards users seats.items) }
 {
     let mut seats = Vec::with_capacity(alloc, usize::from(boards))?;
-    let turns = Arc::new(alloc, Turns::new())?;
-    add_seats(alloc, table, first, users, boards, &turns, &mut seats)?;
+    let permit = Arc::new(alloc, FillPermit::new())?;
+    add_seats(alloc, table, first, users, boards, &permit, &mut seats)?;
     Ok(seats)
 }
 
@@ -171,7 +171,7 @@ fn add_seats(
     first: &mut Chair,
     users: usize,
     boards: u8,
-    turns: &Arc<Turns>,
+    permit: &Arc<FillPermit>,
     seats: &mut Vec<BoardSeat>,
 ) -> Result<(), NoMemory>
     requires of { IsFirstOf (arc_value table.now).shared.table_id users first.old.table_id }
@@ -183,7 +183,7 @@ fn add_seats(
     ensures { OnOk result (AreIdleSeats boards users seats.new.items) }
 {
     for board in 0..boards {
-        let seat = new_seat(alloc, table, first, users, board, turns)?;
+        let seat = new_seat(alloc, table, first, users, board, permit)?;
         seats.push(seat)?;
     }
     Ok(())
@@ -196,7 +196,7 @@ fn new_seat(
     first: &mut Chair,
     users: usize,
     board: u8,
-    turns: &Arc<Turns>,
+    permit: &Arc<FillPermit>,
 ) -> Result<BoardSeat, NoMemory>
     requires of { IsFirstOf (arc_value table.now).shared.table_id users first.old.table_id }
     requires users { (arc_value table.now).shared.key.users ≡ users }
@@ -207,9 +207,9 @@ fn new_seat(
     ensures next { OnOk result (first.new.me ≡ (First users (board + 1), [])) }
     ensures seat { IfOk result (λ seat. IsSeatOf board users seat) }
 {
-    let (table, turns) = (Arc::clone(table)?, Arc::clone(turns)?);
+    let (table, permit) = (Arc::clone(table)?, Arc::clone(permit)?);
     let filling = Filling::new(alloc)?;
-    Ok(cut_board(table, first, users, board, filling, turns))
+    Ok(cut_board(table, first, users, board, filling, permit))
 }
 
 /// Cuts a desk for each user, and a seat for each board.

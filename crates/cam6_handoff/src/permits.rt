@@ -6,13 +6,13 @@ use std::sync::atomic::{AtomicU32, Ordering};
 /// What all seats of a table share: one permit to fill, and which users' last commands made many
 /// tables.
 #[derive(Drop)]
-pub(crate) struct Turns {
+pub(crate) struct FillPermit {
     /// The seat that holds it has the cache's lock next.
     pub next: Mutex<()>,
     /// 1 while a seat has the permit, and else 0.
     taken: AtomicU32,
     /// A bit for each row, 1 if the user's last command made many tables.
-    dear: AtomicU32,
+    expensive: AtomicU32,
 }
 
 /// The bit of a row. There is one for each user, since there are at most 32 (`MAX_USERS`).
@@ -20,13 +20,13 @@ fn bit_of(row: usize) -> u32 {
     1u32.wrapping_shl((row % 32) as u32)
 }
 
-impl Turns {
+impl FillPermit {
     /// The permit is free, and no user's command is known to have made many tables.
-    pub fn new() -> Turns {
-        Turns {
+    pub fn new() -> FillPermit {
+        FillPermit {
             next: Mutex::new(()),
             taken: AtomicU32::new(0),
-            dear: AtomicU32::new(0),
+            expensive: AtomicU32::new(0),
         }
     }
 
@@ -42,23 +42,23 @@ impl Turns {
 
     /// What `note` was told last of the row's user: whether a command makes many tables. False
     /// before that.
-    pub fn is_dear(&self, row: usize) -> bool {
-        self.dear.load(Ordering::SeqCst) & bit_of(row) != 0
+    pub fn is_expensive(&self, row: usize) -> bool {
+        self.expensive.load(Ordering::SeqCst) & bit_of(row) != 0
     }
 
     /// Whether the command in a row must wait without a board. It must if a seat has the permit, and
-    /// `is_dear` is true of the row.
+    /// `is_expensive` is true of the row.
     pub fn holds_back(&self, row: usize) -> bool {
-        self.taken.load(Ordering::SeqCst) != 0 && self.is_dear(row)
+        self.taken.load(Ordering::SeqCst) != 0 && self.is_expensive(row)
     }
 
     /// Notes whether a command of the row's user made many tables, or still has to.
-    pub fn note(&self, row: usize, is_dear: bool) {
+    pub fn note(&self, row: usize, is_expensive: bool) {
         let bit = bit_of(row);
-        if is_dear {
-            self.dear.fetch_or(bit, Ordering::SeqCst);
+        if is_expensive {
+            self.expensive.fetch_or(bit, Ordering::SeqCst);
         } else {
-            self.dear.fetch_and(!bit, Ordering::SeqCst);
+            self.expensive.fetch_and(!bit, Ordering::SeqCst);
         }
     }
 }

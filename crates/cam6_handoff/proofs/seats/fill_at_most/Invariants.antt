@@ -1,6 +1,6 @@
 use Rattle.std.proofs.Common.{◌≡◌, ◌<◌, ◌≤◌, ◌+◌, ℕ, [], slice_index_or}
 use Rattle.cam6_slot.specs.Needs.{needs_of, IsTableNeeded}
-use Rattle.cam6_handoff.proofs.seats.fill_until.Given as goal
+use Rattle.cam6_handoff.proofs.seats.fill_at_most.Given as goal
 
 -- the tables of the uses that were passed are the true ones
 abbrev pub invariant-loop-index : goal.invariant-loop-index
