@@ -20,7 +20,7 @@ use Rattle.cam6_core.specs.State.{with_number, IsNumber}
 use Rattle.cam6_core.specs.Refusals.{refusal}
 use Rattle.cam6_core.specs.Model.{Stage, resting, queued, out, finished, Seat, idle, loaded, dead}
 use Rattle.cam6_core.specs.Model.{User, Model, user, seat, machine_of, at_stage, begun, over, back}
-use Rattle.cam6_core.specs.Model.{with_both, with_seat, turn}
+use Rattle.cam6_core.specs.Model.{with_both, with_seat, transition}
 use Rattle.cam6_core.specs.Model.{ask, lease, band, preempt, fail, collect}
 use Rattle.cam6_core.specs.Runs.{accepted, model_standing, AnswersAs, IsTheModels}
 use Rattle.cam6_core.specs.Runs.{AreTheModels, after_one, after_all}
@@ -248,7 +248,7 @@ module _ (a : Model) (u : ℕ) where
   collect_step v stage ends =
       no_user (event.Collect v) (outcome.Refused NoSuchNumber) a.boards refl refl
 
-  step : (e : Event) → Steps a u e (turn a e)
+  step : (e : Event) → Steps a u e (transition a e)
   step (event.Ask v c) = ask_step v c (user a.users v).stage refl
   step (event.Lease v b) = lease_step v b (user a.users v).stage refl
   step (event.Band b) = band_step b (seat a.boards b)
@@ -270,18 +270,18 @@ module _ (a : Model) (u : ℕ) where
   gets_nothing e r nay = refl
 
   -- the same for what comes of an event, where that is the model's if it is accepted
-  one : (e : Event) (r : Outcome) → (accepted r ≡ true → r ≡ (turn a e).1) →
+  one : (e : Event) (r : Outcome) → (accepted r ≡ true → r ≡ (transition a e).1) →
       Steps a u e (after_one a e r, r)
   one e r law = by_test (accepted r) refl
     where
-      by_test : (b : Bool) → accepted r ≡ b → Steps a u e (cond b (turn a e).0 a, r)
+      by_test : (b : Bool) → accepted r ≡ b → Steps a u e (cond b (transition a e).0 a, r)
       by_test true took =
-          subst (λ (q : Outcome). Steps a u e ((turn a e).0, q)) (sym (law took)) (step e)
+          subst (λ (q : Outcome). Steps a u e ((transition a e).0, q)) (sym (law took)) (step e)
       by_test false nay = no_user e r a.boards (asks_nothing e r nay) (gets_nothing e r nay)
 
 -- what is accepted is the model's
 of_answer : (o : Option Reason) (a : Model) (e : Event) (r : Outcome) → AnswersAs o a e r →
-    accepted r ≡ true → r ≡ (turn a e).1
+    accepted r ≡ true → r ≡ (transition a e).1
 of_answer (Some reason) a e r answers took =
     let never : false ≡ true = sym (ap accepted answers) ∙ took in cc never
 of_answer None a e outcome.NoMemory answers took = cc took

@@ -9,7 +9,7 @@ use Rattle.cam6_station.specs.Held.{Manned, loaded}
 use Rattle.cam6_station.specs.Loading.{IsBehindLoads}
 use Rattle.cam6_core.specs.State.{State, at_number}
 use Rattle.cam6_core.specs.Refusals.{standing, refusal}
-use Rattle.cam6_core.specs.Model.{Model, turn}
+use Rattle.cam6_core.specs.Model.{Model, transition}
 use Rattle.cam6_core.specs.Good.{Good}
 use Rattle.cam6_core.specs.declared.parts.Whereabouts.{Whereabouts}
 use Rattle.cam6_core.specs.declared.parts.Whereabouts.TheVariants.{Resting, Queued}
@@ -33,7 +33,7 @@ WantsMemory s e = ⊥
 -- with the model after the event
 abbrev pub Moves : State → Event → Outcome → State → Type 0
 Moves old e r new =
-    (a : Model) → Good old a → (r ≡ (turn a e).1) × Good new (turn a e).0
+    (a : Model) → Good old a → (r ≡ (transition a e).1) × Good new (transition a e).0
 
 -- an event that isn't refused: if it may need memory, it may run out of memory, and then nothing
 -- changes

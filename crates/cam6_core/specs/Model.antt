@@ -141,12 +141,12 @@ module _ (a : Model) where
   collect u p s = stays
 
 -- users and boards after an event that isn't refused, and its outcome
-abbrev pub turn : Model → Event → Model × Outcome
-turn a (event.Ask u c) = ask a u c (user a.users u) (user a.users u).stage
-turn a (event.Lease u b) = lease a u b (user a.users u) (user a.users u).stage
-turn a (event.Band b) = band a b (seat a.boards b)
-turn a (event.Preempt b) = preempt a b (seat a.boards b)
-turn a (event.Fail b) = fail a b (seat a.boards b)
-turn a (event.Repair b) = (with_seat a b idle, outcome.Repaired)
-turn a event.Evict = (a, outcome.Evicted)
-turn a (event.Collect u) = collect a u (user a.users u) (user a.users u).stage
+abbrev pub transition : Model → Event → Model × Outcome
+transition a (event.Ask u c) = ask a u c (user a.users u) (user a.users u).stage
+transition a (event.Lease u b) = lease a u b (user a.users u) (user a.users u).stage
+transition a (event.Band b) = band a b (seat a.boards b)
+transition a (event.Preempt b) = preempt a b (seat a.boards b)
+transition a (event.Fail b) = fail a b (seat a.boards b)
+transition a (event.Repair b) = (with_seat a b idle, outcome.Repaired)
+transition a event.Evict = (a, outcome.Evicted)
+transition a (event.Collect u) = collect a u (user a.users u) (user a.users u).stage

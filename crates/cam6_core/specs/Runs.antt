@@ -13,7 +13,7 @@ use Rattle.cam6_core.specs.State.{State, at_number}
 use Rattle.cam6_core.specs.Refusals.{Status, Posture, Standing, refusal}
 use Rattle.cam6_core.specs.Refusals as stands
 use Rattle.cam6_core.specs.Model.{Stage, resting, queued, out, finished, Seat, idle, loaded, dead}
-use Rattle.cam6_core.specs.Model.{User, user, Model, machine_of, turn}
+use Rattle.cam6_core.specs.Model.{User, user, Model, machine_of, transition}
 use Rattle.cam6_core.specs.Good.{Good}
 use Rattle.cam6_core.specs.Goes.{Goes, LoadsTables, Spares}
 
@@ -53,7 +53,7 @@ abbrev pub AnswersAs : Option Reason → Model → Event → Outcome → Type 0
 AnswersAs (Some reason) a e r = r ≡ Refused reason
 AnswersAs None a e NoMemory = MayWantMemory a e
 AnswersAs None a e (Refused reason) = ⊥
-AnswersAs None a e r = r ≡ (turn a e).1
+AnswersAs None a e r = r ≡ (transition a e).1
 
 -- the outcome of an event is the model's, with a cache that is empty or not
 abbrev pub IsTheModels : Model → Event → Outcome → Type 0
@@ -62,7 +62,7 @@ IsTheModels a e r =
 
 -- the model after an event with this outcome
 abbrev pub after_one : Model → Event → Outcome → Model
-after_one a e r = if accepted r then (turn a e).0 else a
+after_one a e r = if accepted r then (transition a e).0 else a
 
 -- the model after events with these outcomes
 unfoldable pub after_all : Model → List Event → List Outcome → Model

@@ -1,0 +1,87 @@
+//! Each step of the hand-off table is one event of the core. Each law is the contract of a function
+//! that does nothing.
+ghost use Rattle.cam6_handoff_laws.specs.Laws.{WordIsStatus, RowIsSaid, PutIsAsk, TakeIsLease};
+ghost use Rattle.cam6_handoff_laws.specs.Laws.{BackIsPreempt, BackFromHomeIsFail, DoneIsLastBand};
+ghost use Rattle.cam6_handoff_laws.specs.Laws.{CollectIsCollect, LookIsNoEvent, FirstTakeIsNoEvent};
+ghost use Rattle.cam6_handoff_laws.specs.Threads.{ActionIsEvents, BeginsAtFresh, ExecutionIsEvents};
+ghost use Rattle.cam6_handoff_laws.specs.Threads.{DesksGiveTheReplies, CollectedIsGiven, TakenPlaceStands};
+
+/// A user's status is that of the word that says where the user is.
+pub fn a_word_is_a_status()
+    ensures law { WordIsStatus }
+{}
+
+/// The word of each row of the table's rule says where the row's user is.
+pub fn a_row_is_said()
+    ensures law { RowIsSaid }
+{}
+
+/// A command with bands that is put at a desk is asked.
+pub fn a_put_is_an_ask()
+    ensures law { PutIsAsk }
+{}
+
+/// A command that a board's seat takes is leased.
+pub fn a_take_is_a_lease()
+    ensures law { TakeIsLease }
+{}
+
+/// A place that is put back as it is taken off its board is preempted.
+pub fn a_place_put_back_is_a_preempt()
+    ensures law { BackIsPreempt }
+{}
+
+/// A place that is put back from its home was on a board that failed.
+pub fn a_place_put_back_from_its_home_is_a_fail()
+    ensures law { BackFromHomeIsFail }
+{}
+
+/// What is put as done has had its last band, which frees the board.
+pub fn what_is_put_as_done_is_the_last_band()
+    ensures law { DoneIsLastBand }
+{}
+
+/// What a desk collects is collected.
+pub fn a_collect_is_a_collect()
+    ensures law { CollectIsCollect }
+{}
+
+/// A look that finds another word is no event.
+pub fn a_look_is_no_event()
+    ensures law { LookIsNoEvent }
+{}
+
+/// The first take of a desk's slot is no event.
+pub fn a_first_take_is_no_event()
+    ensures law { FirstTakeIsNoEvent }
+{}
+
+/// An action of threads that are where a model of the core is, is the action's events.
+pub fn an_action_is_its_events()
+    ensures law { ActionIsEvents }
+{}
+
+/// At the beginning the threads are where the model of a new core is.
+pub fn threads_begin_at_a_new_core()
+    ensures law { BeginsAtFresh }
+{}
+
+/// All actions from the beginning on are one list of events of a new core.
+pub fn an_execution_is_a_list_of_events()
+    ensures law { ExecutionIsEvents }
+{}
+
+/// Each desk gives the replies of a private machine to the commands that were put there.
+pub fn desks_give_the_replies()
+    ensures law { DesksGiveTheReplies }
+{}
+
+/// What a desk collects is the private machine's reply to what the desk waits for.
+pub fn what_is_collected_is_the_reply()
+    ensures law { CollectedIsGiven }
+{}
+
+/// What a board took stands for what its user waits for.
+pub fn a_taken_place_stands()
+    ensures law { TakenPlaceStands }
+{}

@@ -1,5 +1,0 @@
-use Rattle.cam6_turns.proofs.Holding.{taken_place_stands}
-use Rattle.cam6_turns.proofs.laws.a_taken_place_stands.Goals as goal
-
-pub returns : goal.returns
-returns c = record { law = taken_place_stands }

@@ -1,5 +1,0 @@
-use Rattle.cam6_turns.proofs.Acting.{action_is_events}
-use Rattle.cam6_turns.proofs.laws.an_action_is_its_events.Goals as goal
-
-pub returns : goal.returns
-returns c = record { law = action_is_events }

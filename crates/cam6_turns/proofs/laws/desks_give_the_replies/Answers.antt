@@ -1,5 +1,0 @@
-use Rattle.cam6_turns.proofs.Executing.{desks_give_the_replies}
-use Rattle.cam6_turns.proofs.laws.desks_give_the_replies.Goals as goal
-
-pub returns : goal.returns
-returns c = record { law = desks_give_the_replies }

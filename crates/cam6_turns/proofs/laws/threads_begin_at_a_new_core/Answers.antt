@@ -1,5 +1,0 @@
-use Rattle.cam6_turns.proofs.Beginning.{begins_at_fresh}
-use Rattle.cam6_turns.proofs.laws.threads_begin_at_a_new_core.Goals as goal
-
-pub returns : goal.returns
-returns c = record { law = begins_at_fresh }

@@ -1,5 +1,0 @@
-use Rattle.cam6_turns.proofs.Acting.{collected_is_given}
-use Rattle.cam6_turns.proofs.laws.what_is_collected_is_the_reply.Goals as goal
-
-pub returns : goal.returns
-returns c = record { law = collected_is_given }
