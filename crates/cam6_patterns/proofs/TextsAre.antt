@@ -8,7 +8,7 @@ use Rattle.std.proofs.lemmas.Bool.{ltb-false}
 use Rattle.cam6_show_frames.specs.Lines.{lines}
 use Rattle.cam6_patterns.specs.Pattern.{Pattern, IsPattern, most_cells, most_states}
 use Rattle.cam6_patterns.specs.Faults.{fault}
-use Rattle.cam6_patterns.specs.Header.{if_none, number_at_front, turn_at_front, corner_at_front}
+use Rattle.cam6_patterns.specs.Header.{if_none, number_at_front, offset_at_front, corner_at_front}
 use Rattle.cam6_patterns.specs.Header.{after, after_first, corner_in, extents_in, past_blanks}
 use Rattle.cam6_patterns.specs.Body.{Bounds, Step, more, over, nothing_read, whole_line_read}
 use Rattle.cam6_patterns.specs.Reading.{Stage, before, within, done, box, on_header, on_head}
@@ -44,36 +44,36 @@ abbrev IsCorner : ℕ × ℕ → Type 0
 IsCorner corner = (corner.0 < most_cells) × (corner.1 < most_cells)
 
 -- a whole number on its ring
-abbrev IsTurn : ℕ × List ℕ → Type 0
-IsTurn turn = turn.0 < most_cells
+abbrev IsOffset : ℕ × List ℕ → Type 0
+IsOffset offset = offset.0 < most_cells
 
-turn_fits : (bytes : List ℕ) → Where IsTurn (turn_at_front bytes)
-turn_fits [] = tt
-turn_fits (b ∷ bytes) =
-    elim (b == 45) as (λ t. Where IsTurn (cond t
+offset_fits : (bytes : List ℕ) → Where IsOffset (offset_at_front bytes)
+offset_fits [] = tt
+offset_fits (b ∷ bytes) =
+    elim (b == 45) as (λ t. Where IsOffset (cond t
     (option_map (λ n. ((most_cells - n.0 % most_cells) % most_cells, n.1)) (number_at_front bytes))
     (option_map (λ n. (n.0 % most_cells, n.1)) (number_at_front (b ∷ bytes))))) [
-      | true ↦ where_map IsTurn (λ n. ((most_cells - n.0 % most_cells) % most_cells, n.1))
+      | true ↦ where_map IsOffset (λ n. ((most_cells - n.0 % most_cells) % most_cells, n.1))
           (number_at_front bytes) (λ n. mod-lt (most_cells - n.0 % most_cells) (omega arith))
-      | false ↦ where_map IsTurn (λ n. (n.0 % most_cells, n.1)) (number_at_front (b ∷ bytes))
+      | false ↦ where_map IsOffset (λ n. (n.0 % most_cells, n.1)) (number_at_front (b ∷ bytes))
           (λ n. mod-lt n.0 (omega arith))
     ]
 
 corner_fits : (between : ℕ) (bytes : List ℕ) → Where IsCorner (corner_at_front between bytes)
 corner_fits between bytes =
-    where_then IsTurn IsCorner
+    where_then IsOffset IsCorner
     (λ column. option_map (λ row. (column.0, row.0))
-    (option_and_then turn_at_front (after (between ∷ []) column.1)))
-    (turn_at_front bytes) (turn_fits bytes)
-    (λ column first. second column first (option_and_then turn_at_front (after (between ∷ []) column.1))
-    (where_then (λ _. Unit {0}) IsTurn turn_at_front (after (between ∷ []) column.1)
-    (anything (after (between ∷ []) column.1)) (λ rest _. turn_fits rest)))
+    (option_and_then offset_at_front (after (between ∷ []) column.1)))
+    (offset_at_front bytes) (offset_fits bytes)
+    (λ column first. second column first (option_and_then offset_at_front (after (between ∷ []) column.1))
+    (where_then (λ _. Unit {0}) IsOffset offset_at_front (after (between ∷ []) column.1)
+    (anything (after (between ∷ []) column.1)) (λ rest _. offset_fits rest)))
   where
     anything : (o : Option (List ℕ)) → Where (λ _. Unit {0}) o
     anything None = tt
     anything (Some x) = tt
 
-    second : (column : ℕ × List ℕ) → IsTurn column → (row : Option (ℕ × List ℕ)) → Where IsTurn row
+    second : (column : ℕ × List ℕ) → IsOffset column → (row : Option (ℕ × List ℕ)) → Where IsOffset row
         → Where IsCorner (option_map (λ row. (column.0, row.0)) row)
     second column first None other = tt
     second column first (Some row) other = (first, other)

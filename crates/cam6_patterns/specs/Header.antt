@@ -65,9 +65,9 @@ extents_in line =
     (extent_at_front 120 line)
 
 -- a whole number modulo most_cells, and what comes after it: "-3" is most_cells - 3
-abbrev pub turn_at_front : List ℕ → Option (ℕ × List ℕ)
-turn_at_front [] = None
-turn_at_front (b ∷ bytes) =
+abbrev pub offset_at_front : List ℕ → Option (ℕ × List ℕ)
+offset_at_front [] = None
+offset_at_front (b ∷ bytes) =
     if b == 45
     then option_map (λ n. ((most_cells - n.0 % most_cells) % most_cells, n.1)) (number_at_front bytes)
     else option_map (λ n. (n.0 % most_cells, n.1)) (number_at_front (b ∷ bytes))
@@ -77,8 +77,8 @@ abbrev pub corner_at_front : ℕ → List ℕ → Option (ℕ × ℕ)
 corner_at_front between bytes =
     option_and_then
     (λ column. option_map (λ row. (column.0, row.0))
-    (option_and_then turn_at_front (after (between ∷ []) column.1)))
-    (turn_at_front bytes)
+    (option_and_then offset_at_front (after (between ∷ []) column.1)))
+    (offset_at_front bytes)
 
 -- what comes after the first place where these bytes stand
 abbrev pub after_first : List ℕ → List ℕ → Option (List ℕ)

@@ -5,7 +5,7 @@ ghost use Rattle.cam6_patterns.specs.Pattern.{most_cells};
 ghost use Rattle.cam6_patterns.specs.Header.{is_blank, is_decimal, past_blanks, number_at_front};
 ghost use Rattle.cam6_patterns.specs.Header.{number_behind};
 ghost use Rattle.cam6_patterns.specs.Header.{after, after_sign, extent_at_front, ends_header};
-ghost use Rattle.cam6_patterns.specs.Header.{extents_in, turn_at_front, corner_at_front};
+ghost use Rattle.cam6_patterns.specs.Header.{extents_in, offset_at_front, corner_at_front};
 ghost use Rattle.cam6_patterns.specs.Header.{after_first, corner_in, if_none};
 ghost use Rattle.cam6_patterns.specs.Reading.{box, on_head, on_header};
 ghost use Rattle.cam6_patterns.specs.Outcome.{StandsFor, AreExtents, LeadsTo, boxed};
@@ -261,9 +261,9 @@ fn extents_in(line: &[u8]) -> Option<(usize, usize)>
 }
 
 /// The whole number at the front modulo 512, and what comes after it. A minus may stand before it.
-fn turn_at_front(bytes: &[u8]) -> Option<(usize, &[u8])>
-    ensures { MatchOption result (turn_at_front bytes.now ≡ None)
-        (λ r. turn_at_front bytes.now ≡ Some (r.0, r.1.now)) }
+fn offset_at_front(bytes: &[u8]) -> Option<(usize, &[u8])>
+    ensures { MatchOption result (offset_at_front bytes.now ≡ None)
+        (λ r. offset_at_front bytes.now ≡ Some (r.0, r.1.now)) }
 {
     let (first, later) = bytes.split_first()?;
     if *first == b'-' {
@@ -279,9 +279,9 @@ fn turn_at_front(bytes: &[u8]) -> Option<(usize, &[u8])>
 fn corner_at_front(between: u8, bytes: &[u8]) -> Option<(usize, usize)>
     ensures { result ≡ corner_at_front between bytes.now }
 {
-    let (column, rest) = turn_at_front(bytes)?;
+    let (column, rest) = offset_at_front(bytes)?;
     let rest = after(&[between], rest)?;
-    let (row, _) = turn_at_front(rest)?;
+    let (row, _) = offset_at_front(rest)?;
     Some((column, row))
 }
 

@@ -14,7 +14,7 @@ use Rattle.cam6_station.specs.Calls.{BandGives, GoesHome, Rises}
 use Rattle.cam6_station.specs.Held.{Manned, Stationed, Held, idle, loaded, dead, is_loaded, is_dead}
 use Rattle.cam6_station.specs.Held.{IsLoaded}
 use Rattle.cam6_pool.specs.Serving.{Serves}
-use Rattle.cam6_pool.specs.Internal.Served.{Carries, ServesOn, turns_left}
+use Rattle.cam6_pool.specs.Internal.Served.{Carries, ServesOn, measure_of}
 use Rattle.cam6_pool.proofs.Serving.{holds_nothing, serves_as}
 
 -- a station that is loaded with a lease serves its place, and what is lost of it goes back there
@@ -109,7 +109,7 @@ is_loaded_then dead is = cc is
 
 -- a board that isn't loaded any more has no turns left
 pub none_left : (y after : Manned) → IsLoaded y → is_loaded after ≡ false →
-    turns_left after < turns_left y
+    measure_of after < measure_of y
 none_left idle after is free = absurd is
 none_left dead after is free = absurd is
 none_left (loaded u h) idle is free = omega arith
@@ -117,7 +117,7 @@ none_left (loaded u h) dead is free = omega arith
 none_left (loaded u h) (loaded v k) is free = cc free
 
 pub fewer_left : (y after : Manned) (left : ℕ) → BandGives y (More left) after →
-    turns_left after < turns_left y
+    measure_of after < measure_of y
 fewer_left idle after left gives = absurd gives
 fewer_left dead after left gives = absurd gives
 fewer_left (loaded u h) idle left gives = absurd gives

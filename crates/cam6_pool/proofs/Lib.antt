@@ -5,4 +5,4 @@ pub mod Serving
 -- A worker's seat and its station, from call to call.
 pub mod Going
 -- A user whom no round takes or passes over is nearer after each take.
-pub mod TakesInTurn
+pub mod RoundRobin

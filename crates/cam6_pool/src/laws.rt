@@ -1,9 +1,9 @@
 //! What follows of the order in which a worker takes users. The law is the contract of a function
 //! that does nothing.
-ghost use Rattle.cam6_pool.specs.Laws.{UsersTakeTurns};
+ghost use Rattle.cam6_pool.specs.Laws.{UsersAreServedInRounds};
 
 /// In a list of takes in turn, if no round takes a user or passes over them, there are fewer takes
 /// than users.
-pub fn users_take_turns()
-    ensures law { UsersTakeTurns }
+pub fn users_are_served_in_rounds()
+    ensures law { UsersAreServedInRounds }
 {}

@@ -1,7 +1,7 @@
 //! A board's seat that looks at users in turn. Only a look moves it on.
 ghost use Rattle.std.specs.Prelude.{◌≡◌, ◌<◌, ◌≤◌, ◌↔◌, IsTrue};
 ghost use Rattle.cam6_handoff.specs.Holding.{IsIdle};
-ghost use Rattle.cam6_pool.specs.Internal.Served.{LooksInTurn};
+ghost use Rattle.cam6_pool.specs.Internal.Served.{LooksAtNext};
 
 use cam6_board::Job;
 use cam6_handoff::BoardSeat;
@@ -49,7 +49,7 @@ impl Round {
     pub(crate) fn look(&mut self) -> Option<(User, Lease, Job)>
         requires idle { IsIdle self.old.seat }
         requires more { self.old.passed < self.old.seat.users }
-        ensures { LooksInTurn self.old result self.new }
+        ensures { LooksAtNext self.old result self.new }
     {
         let users = self.seat.users();
         let user = User::numbered((usize::from(self.row) + usize::from(self.passed)) % users + 1);

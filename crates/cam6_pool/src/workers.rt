@@ -7,7 +7,7 @@ ghost use Rattle.cam6_station.specs.Calls.{Rises};
 ghost use Rattle.cam6_station.specs.Held.{idle, IsLoaded, is_loaded, is_dead};
 ghost use Rattle.cam6_pool.specs.Ending.{EndsBy};
 ghost use Rattle.cam6_pool.specs.Serving.{Serves};
-ghost use Rattle.cam6_pool.specs.Internal.Served.{Carries, TakesNext, ServesOn, turns_left};
+ghost use Rattle.cam6_pool.specs.Internal.Served.{Carries, TakesNext, ServesOn, measure_of};
 
 use crate::gates::{Gate, Turn};
 use crate::rounds::Round;
@@ -39,7 +39,7 @@ fn preempt<B: Board>(seat: &mut BoardSeat, station: &mut Station<B>)
     requires loaded { IsLoaded station.old.at }
     requires serves { Serves seat.old.holds station.old.at }
     ensures on { ServesOn seat.old station.old seat.new station.new }
-    ensures less { turns_left station.new.at < turns_left station.old.at }
+    ensures less { measure_of station.new.at < measure_of station.old.at }
 {
     match station.preempt() {
         Preempted::Back(_, queued) => seat.put_back(queued),
@@ -58,7 +58,7 @@ fn go_on<B: Board, G: Gate>(
     requires loaded { IsLoaded station.old.at }
     requires serves { Serves seat.old.holds station.old.at }
     ensures on { ServesOn seat.old station.old seat.new station.new }
-    ensures less { turns_left station.new.at < turns_left station.old.at }
+    ensures less { measure_of station.new.at < measure_of station.old.at }
 {
     match gate.turn(seat.number(), user.number(), next_band(station)) {
         Turn::Go => {

@@ -46,9 +46,9 @@ impl Diagram {
             nodes[ENTRIES + k] = Node::lowest_bit(entry >> 1);
         }
         let mut diagram = Diagram::after(0);
-        for turn in 0..LINES {
-            let by = Node::line(order.line(turn));
-            diagram.join_pairs(by, &mut nodes[..2 * ENTRIES >> turn])?;
+        for level in 0..LINES {
+            let by = Node::line(order.line(level));
+            diagram.join_pairs(by, &mut nodes[..2 * ENTRIES >> level])?;
         }
         diagram.end(nodes[0], nodes[1]);
         Ok(diagram)

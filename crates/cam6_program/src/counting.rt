@@ -113,8 +113,8 @@ pub(crate) fn counting(entries: &[u8]) -> Result<Diagram, TooLong>
         nodes[COUNTED + k] = Node::lowest_bit(entry >> 1);
     }
     let mut diagram = Diagram::after(COUNTERS);
-    for turn in 0..8 {
-        diagram.join_pairs(chosen_by(turn), &mut nodes[..2 * COUNTED >> turn])?;
+    for level in 0..8 {
+        diagram.join_pairs(chosen_by(level), &mut nodes[..2 * COUNTED >> level])?;
     }
     diagram.end(nodes[0], nodes[1]);
     Ok(diagram)

@@ -17,19 +17,19 @@ pub(crate) enum Order {
 
 impl Order {
     /// The line that is joined in this round. Rounds are counted from 0.
-    pub(crate) fn line(self, turn: usize) -> usize
-        requires { turn < LINES }
+    pub(crate) fn line(self, level: usize) -> usize
+        requires { level < LINES }
         ensures { result < LINES }
     {
         match self {
-            Order::Rising => turn,
-            Order::OppositeFirst => match turn {
+            Order::Rising => level,
+            Order::OppositeFirst => match level {
                 0 => 4,
                 1 => 0,
                 2 => 1,
                 3 => 2,
                 4 => 3,
-                _ => turn,
+                _ => level,
             },
         }
     }

@@ -228,7 +228,7 @@ fn take_steps_of_units(
     ensures last { IfSome last (λ last. (c : ℕ) → c < 64 * UNIT → column_bit out.new c ≡
         beside (at_column c (map (λ line. line.now) lines.now)) steps.now last) }
 {
-    take_in_turn(out, steps, last, lines, slots, UNIT)
+    take_all(out, steps, last, lines, slots, UNIT)
 }
 
 /// Takes all steps over the first halves of units.
@@ -246,7 +246,7 @@ fn take_steps_of_halves(
     ensures last { IfSome last (λ last. (c : ℕ) → c < 64 * HALF_UNIT → column_bit out.new c ≡
         beside (at_column c (map (λ line. line.now) lines.now)) steps.now last) }
 {
-    take_in_turn(out, steps, last, lines, slots, HALF_UNIT)
+    take_all(out, steps, last, lines, slots, HALF_UNIT)
 }
 
 /// Takes all steps over the first words of units.
@@ -266,12 +266,12 @@ fn take_steps_of_parts(
     ensures last { IfSome last (λ last. (c : ℕ) → c < 64 * words → column_bit out.new c ≡
         beside (at_column c (map (λ line. line.now) lines.now)) steps.now last) }
 {
-    take_in_turn(out, steps, last, lines, slots, words)
+    take_all(out, steps, last, lines, slots, words)
 }
 
 /// Takes all steps, one after the other, over the first `words` words of units.
 #[inline(always)]
-fn take_in_turn(
+fn take_all(
     out: &mut Unit,
     steps: &[Step],
     last: Option<Step>,

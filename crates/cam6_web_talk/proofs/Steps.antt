@@ -4,75 +4,75 @@ use Rattle.std.specs.Prelude.{Ok, Err, Result}
 use Rattle.cam6_web_talk.specs.Hosts.{HostWays}
 use Rattle.cam6_web_talk.specs.Pages.{PageWays}
 use Rattle.cam6_web_talk.specs.Talks.{Exchanges, Heard, IsCarried, IsWaitedOn, Line, Nothing}
-use Rattle.cam6_web_talk.specs.Talks.{Talks, TalksUntil, max_silences, max_turns, silences}
+use Rattle.cam6_web_talk.specs.Talks.{Talks, TalksUntil, max_silences, max_rounds, silences}
 use Rattle.cam6_web_talk.specs.declared.carrying.End.{End}
 use Rattle.cam6_web_talk.specs.declared.carrying.End.TheVariants as end
 use Rattle.cam6_web_talk.specs.declared.pages.Said.TheVariants as said
 
--- a talk so far, after so many silences in a row, with so many turns left
+-- a talk so far, after so many silences in a row, with so many rounds left
 pub record IsSoFar {P H : Type 0} (page : PageWays P) (host : HostWays H) (s : P) (h : H)
-    (silent turns : ℕ) (t : P) (k : H) : Type 0 where
+    (silent rounds : ℕ) (t : P) (k : H) : Type 0 where
   pub heard : List Heard
   pub talks : Talks page host s h heard t k
   pub silent_now : silent ≡ silences heard
   pub not_too_often : silent < max_silences
-  pub turns_left : length heard + turns ≡ max_turns
+  pub rounds_left : length heard + rounds ≡ max_rounds
 
 module _ {P H : Type 0} (page : PageWays P) (host : HostWays H) where
-  pub begins : (s : P) (h : H) → IsSoFar page host s h 0 max_turns s h
+  pub begins : (s : P) (h : H) → IsSoFar page host s h 0 max_rounds s h
   begins s h = record {
     heard = [];
     talks = (refl, refl);
     silent_now = refl;
     not_too_often = omega arith;
-    turns_left = refl;
+    rounds_left = refl;
   }
 
-  pub goes_on : (s u t : P) (h j k : H) (silent turns count : ℕ) → 0 < turns
-      → IsSoFar page host s h silent turns u j → Exchanges page host (Ok count) silent u j t k
-      → IsSoFar page host s h count (turns - 1) t k
-  goes_on s u t h j k silent turns count some so next = record {
+  pub goes_on : (s u t : P) (h j k : H) (silent rounds count : ℕ) → 0 < rounds
+      → IsSoFar page host s h silent rounds u j → Exchanges page host (Ok count) silent u j t k
+      → IsSoFar page host s h count (rounds - 1) t k
+  goes_on s u t h j k silent rounds count some so next = record {
     heard = next.0 ∷ so.heard;
     talks = (u, j, so.talks, next.1);
     silent_now = rw (sym so.silent_now) next.2;
     not_too_often = next.3;
-    turns_left = let now = so.turns_left in omega arith;
+    rounds_left = let now = so.rounds_left in omega arith;
   }
 
   -- the page wasn't silent too often
-  patient : (s t : P) (h k : H) (silent turns : ℕ) → (so : IsSoFar page host s h silent turns t k)
+  patient : (s t : P) (h k : H) (silent rounds : ℕ) → (so : IsSoFar page host s h silent rounds t k)
       → silences so.heard < max_silences
-  patient s t h k silent turns so =
+  patient s t h k silent rounds so =
       let now = so.silent_now in let few = so.not_too_often in omega arith
 
-  pub ends : (s u t : P) (h j k : H) (silent turns : ℕ) (end : End)
-      → IsSoFar page host s h silent turns u j → Exchanges page host (Err end) silent u j t k
+  pub ends : (s u t : P) (h j k : H) (silent rounds : ℕ) (end : End)
+      → IsSoFar page host s h silent rounds u j → Exchanges page host (Err end) silent u j t k
       → TalksUntil page host end s h t k
-  ends s u t h j k silent turns (end.Unheard why) so last =
-      (so.heard, u, j, so.talks, patient s u h j silent turns so, last)
-  ends s u t h j k silent turns end.NotALine so last =
-      (so.heard, u, j, so.talks, patient s u h j silent turns so, last)
-  ends s u t h j k silent turns end.TooLong so last =
-      (so.heard, u, j, so.talks, patient s u h j silent turns so, last)
-  ends s u t h j k silent turns (end.Unanswered silence) so last =
-      (so.heard, u, j, so.talks, patient s u h j silent turns so, last)
-  ends s u t h j k silent turns end.NoText so last =
-      (so.heard, u, j, so.talks, patient s u h j silent turns so, last)
-  ends s u t h j k silent turns (end.Unsent why) so last =
-      (so.heard, u, j, so.talks, patient s u h j silent turns so, last)
-  ends s u t h j k silent turns (end.Unpinged why) so last =
-      (so.heard, u, j, so.talks, patient s u h j silent turns so, last)
-  ends s u t h j k silent turns end.Silent so last =
+  ends s u t h j k silent rounds (end.Unheard why) so last =
+      (so.heard, u, j, so.talks, patient s u h j silent rounds so, last)
+  ends s u t h j k silent rounds end.NotALine so last =
+      (so.heard, u, j, so.talks, patient s u h j silent rounds so, last)
+  ends s u t h j k silent rounds end.TooLong so last =
+      (so.heard, u, j, so.talks, patient s u h j silent rounds so, last)
+  ends s u t h j k silent rounds (end.Unanswered silence) so last =
+      (so.heard, u, j, so.talks, patient s u h j silent rounds so, last)
+  ends s u t h j k silent rounds end.NoText so last =
+      (so.heard, u, j, so.talks, patient s u h j silent rounds so, last)
+  ends s u t h j k silent rounds (end.Unsent why) so last =
+      (so.heard, u, j, so.talks, patient s u h j silent rounds so, last)
+  ends s u t h j k silent rounds (end.Unpinged why) so last =
+      (so.heard, u, j, so.talks, patient s u h j silent rounds so, last)
+  ends s u t h j k silent rounds end.Silent so last =
       let now = so.silent_now in let often = last.2 in
-      (so.heard, u, j, so.talks, patient s u h j silent turns so, (last.0, last.1, omega arith))
-  ends s u t h j k silent turns end.TurnBound so last = absurd last
+      (so.heard, u, j, so.talks, patient s u h j silent rounds so, (last.0, last.1, omega arith))
+  ends s u t h j k silent rounds end.TurnBound so last = absurd last
 
-  -- a talk that has no turn left
-  pub stops : (s t : P) (h k : H) (silent turns : ℕ) → (0 < turns → ⊥)
-      → IsSoFar page host s h silent turns t k → TalksUntil page host end.TurnBound s h t k
-  stops s t h k silent turns none so =
-      let now = so.turns_left in
-      (so.heard, t, k, so.talks, patient s t h k silent turns so, (omega arith, refl, refl))
+  -- a talk that has no round left
+  pub stops : (s t : P) (h k : H) (silent rounds : ℕ) → (0 < rounds → ⊥)
+      → IsSoFar page host s h silent rounds t k → TalksUntil page host end.TurnBound s h t k
+  stops s t h k silent rounds none so =
+      let now = so.rounds_left in
+      (so.heard, t, k, so.talks, patient s t h k silent rounds so, (omega arith, refl, refl))
 
   -- a text that was heard is carried, or the talk ends there
   pub carried : (s u t : P) (h k : H) (silent : ℕ) (line : List ℕ) → page.hears s (said.Text line) u

@@ -19,8 +19,8 @@ pub data Heard : Type 0 where
 abbrev pub max_silences : ℕ
 max_silences = 3
 
-abbrev pub max_turns : ℕ
-max_turns = 1099511627776
+abbrev pub max_rounds : ℕ
+max_rounds = 1099511627776
 
 -- how often in a row the page was silent, with this one after so many silences
 abbrev pub silences_after : ℕ → Heard → ℕ
@@ -91,10 +91,10 @@ Ends page host end.Silent silent s h t k =
     page.hears s said.Nothing t × (k ≡ h) × (silent + 1 ≡ max_silences)
 Ends page host end.TurnBound silent s h t k = ⊥
 
--- the same after all that was heard; the bound of turns leaves nothing more
+-- the same after all that was heard; the bound of rounds leaves nothing more
 abbrev pub Stops : {P H : Type 0} → PageWays P → HostWays H → End → List Heard → P → H → P → H
     → Type 0
-Stops page host end.TurnBound heard s h t k = (length heard ≡ max_turns) × (t ≡ s) × (k ≡ h)
+Stops page host end.TurnBound heard s h t k = (length heard ≡ max_rounds) × (t ≡ s) × (k ≡ h)
 Stops page host end heard s h t k = Ends page host end (silences heard) s h t k
 
 -- a talk, and its end

@@ -12,7 +12,7 @@ use crate::pages::{Page, Said, Unheard, Unsent};
 const SILENCES: u8 = 3;
 
 /// How many messages and silences a bridge has at most.
-const TURNS: u64 = 1_099_511_627_776;
+const ROUNDS: u64 = 1_099_511_627_776;
 
 /// How a bridge ended.
 #[derive(Clone, Copy, Debug, PartialEq, Eq)]
@@ -44,9 +44,9 @@ pub fn carry<P: Page, H: Host>(page: &mut P, host: &mut H) -> End
         (P.stands page.old) (H.stands host.old) (P.stands page.new) (H.stands host.new) }
 {
     let mut silences = 0;
-    let mut turns = TURNS;
-    while turns > 0 {
-        turns -= 1;
+    let mut rounds = ROUNDS;
+    while rounds > 0 {
+        rounds -= 1;
         match exchange(page, host, silences) {
             Ok(count) => silences = count,
             Err(end) => return end,

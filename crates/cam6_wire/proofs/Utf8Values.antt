@@ -75,26 +75,26 @@ key_read (Token.null ∷ ts) are = tt
 key_read (Token.bad ∷ ts) are = tt
 
 module _ (read : Parse Json) (reads : Reads IsOfTexts read) where
-  item_turn : (more : Parse Items) → Reads AreOfTexts more → (ts : List Token) →
+  item_back : (more : Parse Items) → Reads AreOfTexts more → (ts : List Token) →
       AreTextTokens ts → (o : Option (List Token)) → IfSome o AreTextTokens →
       IfSome (items_step read more ts o) (BeforeTexts AreOfTexts)
-  item_turn more again ts are (Some rest) left = (tt, left)
-  item_turn more again ts are None left =
+  item_back more again ts are (Some rest) left = (tt, left)
+  item_back more again ts are None left =
       and_more AreOfTexts item (λ j js is also. (is, also)) more again (read ts) (reads ts are)
 
   items_read : (n : ℕ) → Reads AreOfTexts (items read n)
   unfolding items
   items_read zero ts are = tt
   items_read (suc n) ts are =
-      item_turn (items read n) (items_read n) ts are (after_end_array ts) (array_ends ts are)
+      item_back (items read n) (items_read n) ts are (after_end_array ts) (array_ends ts are)
 
-  member_turn : (more : Parse Members) → Reads HaveOfTexts more →
+  member_back : (more : Parse Members) → Reads HaveOfTexts more →
       (o : Option (Option (List ℕ) × List Token)) →
       IfSome o (BeforeTexts (λ key. IfSome key IsUtf8)) →
       IfSome (option_and_then (λ p. members_step read more p.0 p.1) o) (BeforeTexts HaveOfTexts)
-  member_turn more again None are = tt
-  member_turn more again (Some (None, ts)) are = (tt, are.1)
-  member_turn more again (Some (Some key, ts)) are =
+  member_back more again None are = tt
+  member_back more again (Some (None, ts)) are = (tt, are.1)
+  member_back more again (Some (Some key, ts)) are =
       and_more HaveOfTexts (member key) (λ j ms is also. (are.0, is, also)) more again (read ts)
       (reads ts are.1)
 
@@ -102,7 +102,7 @@ module _ (read : Parse Json) (reads : Reads IsOfTexts read) where
   unfolding members
   members_read zero ts are = tt
   members_read (suc n) ts are =
-      member_turn (members read n) (members_read n) (read_key ts) (key_read ts are)
+      member_back (members read n) (members_read n) (read_key ts) (key_read ts are)
 
 one_level : (a : Parse Items) (o : Parse Members) → Reads AreOfTexts a → Reads HaveOfTexts o →
     Reads IsOfTexts (value_with a o)

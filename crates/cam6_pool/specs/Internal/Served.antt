@@ -10,16 +10,16 @@ use Rattle.cam6_slot.specs.Lefts.{lease_left}
 use Rattle.cam6_slot.specs.Stands.{Stands, StandsOut}
 use Rattle.cam6_station.specs.Calls.{Rises}
 use Rattle.cam6_station.specs.Held.{Manned, Stationed, idle, loaded, dead, is_dead, held_left}
-use Rattle.cam6_pool.specs.Rounds.{user_in_turn, IsInTurn}
+use Rattle.cam6_pool.specs.Rounds.{next_user, IsNextUser}
 use Rattle.cam6_pool.specs.Serving.{Serves}
 use Rattle.cam6_pool.specs.declared.rounds.Round.{Round}
 
 -- the user in turn is passed over and the seat is as it was; or it holds their place, leased, and
 -- the row is that of the user after them
-abbrev pub LooksInTurn : Round → Option (ℕ × StoredLease × StoredJob) → Round → Type 0
-LooksInTurn old None new = new ≡ record old { passed = old.passed + 1 }
-LooksInTurn old (Some taken) new =
-    (taken.0 ≡ user_in_turn old.seat.users old.row old.passed)
+abbrev pub LooksAtNext : Round → Option (ℕ × StoredLease × StoredJob) → Round → Type 0
+LooksAtNext old None new = new ≡ record old { passed = old.passed + 1 }
+LooksAtNext old (Some taken) new =
+    (taken.0 ≡ next_user old.seat.users old.row old.passed)
     × (new ≡ record old { seat = new.seat; row = taken.0 })
     × TakeGives old.seat taken.0 (Some (taken.1, taken.2)) new.seat
 
@@ -28,7 +28,7 @@ LooksInTurn old (Some taken) new =
 abbrev pub TakesNext : Round → Option (ℕ × StoredLease × StoredJob) → Round → Type 0
 TakesNext old None new = new ≡ record old { passed = old.seat.users }
 TakesNext old (Some taken) new =
-    IsInTurn old.seat.users old.row (record { passed = new.passed; user = taken.0 })
+    IsNextUser old.seat.users old.row (record { passed = new.passed; user = taken.0 })
     × (new.row ≡ taken.0)
     × TakeGives old.seat taken.0 (Some (taken.1, taken.2)) new.seat
 
@@ -48,7 +48,7 @@ pub record ServesOn (seat : BoardStance) (station : Stationed) (later : BoardSta
   pub faults : Rises (is_dead after.at) station.faults after.faults
 
 -- how often the gate is asked at most, until the board is free
-abbrev pub turns_left : Manned → ℕ
-turns_left (loaded u h) = held_left h + 1
-turns_left idle = 0
-turns_left dead = 0
+abbrev pub measure_of : Manned → ℕ
+measure_of (loaded u h) = held_left h + 1
+measure_of idle = 0
+measure_of dead = 0

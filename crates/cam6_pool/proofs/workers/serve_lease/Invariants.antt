@@ -1,4 +1,4 @@
-use Rattle.cam6_pool.specs.Internal.Served.{ServesOn, turns_left}
+use Rattle.cam6_pool.specs.Internal.Served.{ServesOn, measure_of}
 use Rattle.cam6_pool.proofs.workers.serve_lease.Given as goal
 
 -- the station serves the seat
@@ -8,4 +8,4 @@ invariant-loop-stops g l = record {
 }
 
 abbrev pub decreases-loop-stops : goal.decreases-loop-stops
-decreases-loop-stops g l = turns_left l.station.at
+decreases-loop-stops g l = measure_of l.station.at
