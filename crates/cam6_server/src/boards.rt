@@ -4,7 +4,7 @@ ghost use Rattle.cam6_board.specs.Held.{empty};
 ghost use Rattle.cam6_board.specs.Soft.{load_in};
 ghost use Rattle.cam6_handoff.specs.Holding.{AreIdle, IsIdle};
 
-use crate::halls::{Hall, Handle};
+use crate::states::{Handle, HostState};
 use cam6_board::SoftBoard;
 use cam6_handoff::BoardSeat;
 use cam6_planes::NoMemory;
@@ -30,8 +30,8 @@ impl IdleBoard {
     }
 
     /// Serves users until the host's gate ends it. The board never fails, so it ends in no other way.
-    pub fn serve<R: Handle>(self, hall: &Hall<R>) {
-        serve_board(&hall.rt, self.seat, self.board, &hall.cache, &hall.gate);
+    pub fn serve<R: Handle>(self, host: &HostState<R>) {
+        serve_board(&host.rt, self.seat, self.board, &host.cache, &host.gate);
     }
 }
 

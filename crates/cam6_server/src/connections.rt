@@ -9,8 +9,8 @@ ghost use Rattle.cam6_server.specs.Connections.{AnswersOnly, Converses, ReadsFir
 ghost use Rattle.cam6_server.specs.Connections.{SitsDown, SitsDownAt, Tells};
 
 use crate::desks::AtGate;
-use crate::halls::{Hall, Handle};
 use crate::places::SeatedDesk;
+use crate::states::{Handle, HostState};
 use crate::streams::Connection;
 use crate::waits::Patience;
 use cam6_session::{Ask, End, Line, LineBuf, answer_lines, next_line_within};
@@ -40,7 +40,7 @@ pub enum Visit {
 /// client has its seat. The connection sends the answers that it holds back before steps are waited
 /// for, and before the seat is free. Answers a first line as soon as it is certainly too long.
 pub fn converse<H: Handle, R: BufRead, W: Write, C: Connection>(
-    hall: &Hall<H>,
+    host: &HostState<H>,
     reader: &mut R,
     writer: &mut W,
     connection: &C,
@@ -48,19 +48,19 @@ pub fn converse<H: Handle, R: BufRead, W: Write, C: Connection>(
     ensures { Converses result (R.remaining reader.old) (R.remaining reader.new)
         (W.contents writer.old) (W.contents writer.new) }
 {
-    let user = match first_line(hall.rt.alloc(), reader) {
+    let user = match first_line(host.rt.alloc(), reader) {
         Ok(Ok(user)) => user,
         Ok(Err(fault)) => return refuse(writer, fault_line(fault)),
         Err(end) => return Visit::Silent(end),
     };
     let waiter = AtGate {
-        patience: Patience::new(hall.rt),
-        gate: &hall.gate,
+        patience: Patience::new(host.rt),
+        gate: &host.gate,
         connection,
     };
-    let taken = hall.places.lock(&hall.rt).take(user, waiter);
+    let taken = host.places.lock(&host.rt).take(user, waiter);
     match taken {
-        Ok(desk) => seated(hall, reader, writer, connection, desk),
+        Ok(desk) => seated(host, reader, writer, connection, desk),
         Err(seating) => refuse(writer, seating_line(seating)),
     }
 }
@@ -122,7 +122,7 @@ fn refuse<W: Write>(writer: &mut W, answer: &str) -> Visit
 /// Serves a session at the user's desk, and then makes the desk free again. Whoever takes the desk
 /// next sees where the machine stands then.
 fn seated<H: Handle, R: BufRead, W: Write, C: Connection>(
-    hall: &Hall<H>,
+    host: &HostState<H>,
     reader: &mut R,
     writer: &mut W,
     connection: &C,
@@ -135,9 +135,9 @@ fn seated<H: Handle, R: BufRead, W: Write, C: Connection>(
 {
     connection.sit();
     let mut desk = desk;
-    let visit = sit_down(hall.rt.alloc(), reader, writer, &mut desk);
+    let visit = sit_down(host.rt.alloc(), reader, writer, &mut desk);
     connection.release();
-    hall.places.lock(&hall.rt).give_back(desk);
+    host.places.lock(&host.rt).give_back(desk);
     visit
 }
 

@@ -4,10 +4,10 @@ ghost use Rattle.cam6_server.specs.Places.{AreOwnDesks};
 
 use crate::boards::{IdleBoard, boards_at};
 use crate::guests::Guests;
-use crate::halls::{Hall, Handle, House};
 use crate::places::Places;
 use crate::serving::{Fault, Serving};
 use crate::sessions::receive;
+use crate::states::{Handle, HostState, ServerState};
 use cam6_cache::TableCache;
 use cam6_handoff::laws::{blank_desks_are_their_users, blank_desks_rest};
 use cam6_handoff::{BoardSeat, Desk, boot};
@@ -40,13 +40,13 @@ pub fn serve_net<R: Handle + Eprint + Send + Sync + 'static>(
     listener: TcpListener,
     serving: &Serving,
 ) -> Result<(), Fault> {
-    let (house, boards) = open(rt, serving)?;
+    let (server, boards) = open(rt, serving)?;
     let mut workers = Vec::new(rt.alloc());
-    let served = match employ(&house, boards, &mut workers) {
-        Ok(()) => accept(rt, &house, listener, serving.connections),
+    let served = match employ(&server, boards, &mut workers) {
+        Ok(()) => accept(rt, &server, listener, serving.connections),
         Err(fault) => Err(fault),
     };
-    house.hall.gate.stop();
+    server.host.gate.stop();
     for worker in workers {
         worker.join(&rt);
     }
@@ -54,19 +54,22 @@ pub fn serve_net<R: Handle + Eprint + Send + Sync + 'static>(
 }
 
 /// What the threads of a host share, and its boards.
-fn open<R: Handle>(rt: R, serving: &Serving) -> Result<(Arc<House<R>>, Vec<IdleBoard>), NoMemory> {
+fn open<R: Handle>(
+    rt: R,
+    serving: &Serving,
+) -> Result<(Arc<ServerState<R>>, Vec<IdleBoard>), NoMemory> {
     let alloc = rt.alloc();
     let limits = vec![in alloc; serving.limit; serving.users]?;
     let (desks, seats) = boot(alloc, serving.users, serving.boards, limits.as_slice())?;
     blank_desks_are_their_users();
     blank_desks_rest();
-    let house = House {
-        hall: hall_of(rt, serving, desks, seats.as_slice())?,
+    let server = ServerState {
+        host: host_of(rt, serving, desks, seats.as_slice())?,
         guests: Mutex::new(Guests::new(serving.users)),
         left: Condvar::new(),
         idle: idle_of(serving),
     };
-    Ok((Arc::new(alloc, house)?, boards_at(alloc, seats)?))
+    Ok((Arc::new(alloc, server)?, boards_at(alloc, seats)?))
 }
 
 /// How long a client with a seat may be silent, or `None` for no limit.
@@ -78,19 +81,19 @@ fn idle_of(serving: &Serving) -> Option<Duration> {
 }
 
 /// Makes what the threads of a host share, with these desks and a gate for boards at these seats.
-fn hall_of<R: Handle>(
+fn host_of<R: Handle>(
     rt: R,
     serving: &Serving,
     desks: Vec<Desk>,
     seats: &[BoardSeat],
-) -> Result<Hall<R>, NoMemory>
+) -> Result<HostState<R>, NoMemory>
     requires a_seat { 0 < length seats.now }
     requires desks { AreOwnDesks desks.items }
 {
     let alloc = rt.alloc();
     let places = Places::new(alloc, desks)?;
     let cache = TableCache::new(alloc, serving.cache)?;
-    Ok(Hall {
+    Ok(HostState {
         rt,
         cache: Mutex::new(cache),
         gate: gate_of(rt, serving, seats)?,
@@ -115,7 +118,7 @@ fn gate_of<R: Handle>(
 /// Starts a thread for each board, and adds it to `workers`. If one can't be started, returns why.
 /// Those before it run, and are in `workers`.
 fn employ<R: Handle + Send + Sync + 'static>(
-    house: &Arc<House<R>>,
+    server: &Arc<ServerState<R>>,
     boards: Vec<IdleBoard>,
     workers: &mut Vec<JoinHandle<()>>,
 ) -> Result<(), Fault> {
@@ -123,7 +126,7 @@ fn employ<R: Handle + Send + Sync + 'static>(
         return Err(Fault::NoMemory);
     }
     for board in boards {
-        let worker = start(house, board)?;
+        let worker = start(server, board)?;
         if workers.push(worker).is_err() {
             return Err(Fault::NoMemory);
         }
@@ -133,13 +136,13 @@ fn employ<R: Handle + Send + Sync + 'static>(
 
 /// Starts a thread for a board.
 fn start<R: Handle + Send + Sync + 'static>(
-    house: &Arc<House<R>>,
+    server: &Arc<ServerState<R>>,
     board: IdleBoard,
 ) -> Result<JoinHandle<()>, Fault> {
-    let Ok(theirs) = Arc::try_clone(house) else {
+    let Ok(theirs) = Arc::try_clone(server) else {
         return Err(Fault::NoMemory);
     };
-    match spawn(&house.hall.rt, move || board.serve(&theirs.hall)) {
+    match spawn(&server.host.rt, move || board.serve(&theirs.host)) {
         Ok(worker) => Ok(worker),
         Err(_) => Err(Fault::NoThread),
     }
@@ -150,7 +153,7 @@ fn start<R: Handle + Send + Sync + 'static>(
 /// client has ever had a seat.
 fn accept<R: Handle + Eprint + Send + Sync + 'static>(
     rt: R,
-    house: &Arc<House<R>>,
+    server: &Arc<ServerState<R>>,
     listener: TcpListener,
     connections: u64,
 ) -> Result<(), Fault> {
@@ -160,7 +163,7 @@ fn accept<R: Handle + Eprint + Send + Sync + 'static>(
         match stream {
             Ok(stream) => {
                 failures.row = 0;
-                receive(house, stream);
+                receive(server, stream);
                 accepted = accepted.wrapping_add(1);
                 if accepted == connections {
                     break;
@@ -168,7 +171,7 @@ fn accept<R: Handle + Eprint + Send + Sync + 'static>(
             }
             Err(error) => {
                 failures.one_more(&rt, &error);
-                if failures.row > TRIES && !house.was_seated() {
+                if failures.row > TRIES && !server.was_seated() {
                     return Err(Fault::Network);
                 }
                 sleep(&rt, Duration::from_millis(PAUSE));
@@ -176,7 +179,7 @@ fn accept<R: Handle + Eprint + Send + Sync + 'static>(
         }
     }
     drop(listener);
-    house.wait();
+    server.wait();
     Ok(())
 }
 

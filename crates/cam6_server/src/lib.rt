@@ -28,7 +28,7 @@
 //! and `cam6_writing`; `cam6_pool`, the workers and their gate; `cam6_handoff`, desks and seats; `cam6_board`,
 //! `cam6_cache`, `cam6_commands`, `cam6_model` and `cam6_planes`.
 //!
-//! Read next: `serving`, how much a host has; `hosts`, all of it; `halls`, what its threads share;
+//! Read next: `serving`, how much a host has; `hosts`, all of it; `states`, what its threads share;
 //! `boards`; `guests`, the counts of clients; `sessions`, a thread for each connection;
 //! `connections`, what is said there; `places`, `desks` and `waits`; `outboxes`, `terms` and
 //! `streams`, the bytes and their limits.
@@ -38,20 +38,20 @@ mod boards;
 mod connections;
 mod desks;
 mod guests;
-mod halls;
 mod hosts;
 mod outboxes;
 mod places;
 mod serving;
 mod sessions;
+mod states;
 mod streams;
 mod terms;
 mod waits;
 
 pub use connections::{Visit, converse};
-pub use halls::{Hall, Handle};
 pub use hosts::serve_net;
 pub use outboxes::Outbox;
 pub use places::{Places, SeatedDesk};
 pub use serving::{Fault, Serving};
+pub use states::{Handle, HostState};
 pub use streams::Connection;

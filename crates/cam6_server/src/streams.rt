@@ -1,8 +1,8 @@
 //! The bytes of a connection. Answers to lines that came together go out together.
 
 use crate::guests::Standing;
-use crate::halls::{Handle, House};
 use crate::outboxes::Outbox;
+use crate::states::{Handle, ServerState};
 use crate::terms::{Terms, after, left_until};
 use std::alloc::Global;
 use std::cell::RefCell;
@@ -124,18 +124,18 @@ impl<'a, R: Handle> Link<'a, R> {
     /// seat. Allocates the buffer of the outbox, and sets how long a write may wait.
     pub fn new(
         alloc: Global,
-        house: &'a House<R>,
+        server: &'a ServerState<R>,
         stream: &'a TcpStream,
     ) -> io::Result<Link<'a, R>> {
         // Answers are sent even if the socket can't be set to send them at once.
         let _ = stream.set_nodelay(true);
         stream.set_write_timeout(Some(Duration::from_secs(LOOK_SECONDS)))?;
         let socket = Socket {
-            clock: &house.hall.rt,
+            clock: &server.host.rt,
             stream,
         };
         Ok(Link {
-            terms: Terms::new(house)?,
+            terms: Terms::new(server)?,
             socket,
             outbox: RefCell::new(Outbox::new(alloc, socket)?),
         })

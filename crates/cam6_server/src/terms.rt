@@ -2,7 +2,7 @@
 //! it may be silent after that.
 
 use crate::guests::{Guests, Standing};
-use crate::halls::{Handle, House};
+use crate::states::{Handle, ServerState};
 use cam6_wire::LINE_LIMIT;
 use std::cell::Cell;
 use std::io;
@@ -31,12 +31,12 @@ pub struct Terms<'a, R: Handle> {
 
 impl<'a, R: Handle> Terms<'a, R> {
     /// The limits of a client that has just connected.
-    pub fn new(house: &'a House<R>) -> io::Result<Terms<'a, R>> {
-        let rt = house.hall.rt;
+    pub fn new(server: &'a ServerState<R>) -> io::Result<Terms<'a, R>> {
+        let rt = server.host.rt;
         Ok(Terms {
             rt,
-            guests: &house.guests,
-            idle: house.idle,
+            guests: &server.guests,
+            idle: server.idle,
             standing: Cell::new(Standing::Waiting),
             until: after(&rt, SEAT_SECONDS)?,
             came: Cell::new(0),

@@ -1,17 +1,17 @@
 //! Boards that fail at a call, or that are held in their first band.
 
-use crate::houses::House;
+use crate::shares::Shared;
 use crate::threads::Handle;
 use cam6_board::{BandEnd, Board, BoardFault, FlakyBoard, Image, Job, Tables};
 use cam6_planes::NoMemory;
 use std::sync::Arc;
 
-/// A board that fails at one call or never. If the house holds bands, the first thread that does a
+/// A board that fails at one call or never. If the shared state holds bands, the first thread that does a
 /// band of such a board is held inside it.
 #[derive(Drop)]
 pub struct TriedBoard<R: Handle> {
     inner: FlakyBoard,
-    house: Arc<House<R>>,
+    shared: Arc<Shared<R>>,
 }
 
 impl<R: Handle> TriedBoard<R> {
@@ -20,16 +20,16 @@ impl<R: Handle> TriedBoard<R> {
 
     /// An empty board that fails at this call, or never if there is none. Loads, bands and unloads
     /// are counted together, from 1.
-    pub fn new(house: &Arc<House<R>>, call: Option<u64>) -> Result<TriedBoard<R>, NoMemory>
+    pub fn new(shared: &Arc<Shared<R>>, call: Option<u64>) -> Result<TriedBoard<R>, NoMemory>
         ensures { IfOk result (λ board. board.inner.load ≡ empty) }
     {
-        let mut calls = Vec::new(house.rt.alloc());
+        let mut calls = Vec::new(shared.rt.alloc());
         if let Some(call) = call {
             calls.push(call)?;
         }
-        let inner = FlakyBoard::new(house.rt.alloc(), calls)?;
-        let house = Arc::try_clone(house)?;
-        Ok(TriedBoard { inner, house })
+        let inner = FlakyBoard::new(shared.rt.alloc(), calls)?;
+        let shared = Arc::try_clone(shared)?;
+        Ok(TriedBoard { inner, shared })
     }
 }
 
@@ -51,8 +51,8 @@ impl<R: Handle> Board for TriedBoard<R> {
     }
 
     fn band(&mut self) -> Result<BandEnd, BoardFault> {
-        if self.house.holds_bands {
-            self.house.hold.pass(&self.house.rt);
+        if self.shared.holds_bands {
+            self.shared.hold.pass(&self.shared.rt);
         }
         self.inner.band()
     }

@@ -7,16 +7,16 @@
 //! Stands on: `cam6_try_examples`, how files are read and compared; `cam6_pool`, the workers;
 //! `cam6_handoff`, `cam6_board`, `cam6_cache`, `cam6_slot`, `cam6_wire` and what they stand on.
 //!
-//! Read next: `data/`, the examples; `ways`, how they are played; `halls`, what a line asks for;
-//! `users` and `workers`, who have threads of their own; `houses`, all that threads share, with
+//! Read next: `data/`, the examples; `ways`, how they are played; `hosts`, what a line asks for;
+//! `users` and `workers`, who have threads of their own; `shares`, all that threads share, with
 //! `gates`, `holds` and `boards`; then `threads`.
 #![tactic(auto)]
 
 mod boards;
 mod gates;
-mod halls;
 mod holds;
-mod houses;
+mod hosts;
+mod shares;
 mod threads;
 mod users;
 mod ways;

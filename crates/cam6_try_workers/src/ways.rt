@@ -3,7 +3,7 @@ ghost use Rattle.std.specs.Prelude.{◌<◌, ◌≤◌};
 ghost use Rattle.cam6_commands.specs.Limits.{max_users, max_boards};
 
 use crate::gates::Once;
-use crate::halls::Hall;
+use crate::hosts::TestHost;
 use crate::threads::Handle;
 use cam6_handoff::{MAX_BOARDS, MAX_USERS};
 use cam6_pool::Turn;
@@ -75,11 +75,11 @@ impl WorkerWay {
         sent: &[Sent],
     ) -> io::Result<Vec<u8>> {
         let mut answers = Vec::new(rt.alloc());
-        match Hall::new(rt, self) {
-            Ok(mut hall) => {
-                let played = hall.play(self.event, call, sent, &mut answers);
-                hall.end();
-                drop(hall);
+        match TestHost::new(rt, self) {
+            Ok(mut host) => {
+                let played = host.play(self.event, call, sent, &mut answers);
+                host.end();
+                drop(host);
                 played.map(|_| answers)
             }
             Err(_) => Err(no_memory()),

@@ -4,7 +4,7 @@ ghost use Rattle.cam6_board.specs.Held.{empty};
 ghost use Rattle.cam6_handoff.specs.Holding.{IsIdle};
 
 use crate::boards::TriedBoard;
-use crate::houses::House;
+use crate::shares::Shared;
 use crate::threads::{Flag, Handle, Thread};
 use cam6_board::Board;
 use cam6_handoff::BoardSeat;
@@ -81,13 +81,13 @@ impl Worker {
     /// for that, and then the seat may be gone.
     pub fn serve<R: Handle + Send + Sync + 'static>(
         &mut self,
-        house: &Arc<House<R>>,
+        shared: &Arc<Shared<R>>,
         call: Option<u64>,
     ) -> io::Result<bool> {
-        let flag = Flag::new(house.rt.alloc())?;
+        let flag = Flag::new(shared.rt.alloc())?;
         let raised = flag.shared()?;
-        let theirs = Arc::try_clone(house)?;
-        let board = empty_board(house, call)?;
+        let theirs = Arc::try_clone(shared)?;
+        let board = empty_board(shared, call)?;
         let Some(left) = self.left.take() else {
             return Ok(false);
         };
@@ -138,8 +138,8 @@ impl Worker {
 }
 
 /// An empty board that fails at this call or never.
-fn empty_board<R: Handle>(house: &Arc<House<R>>, call: Option<u64>) -> io::Result<EmptyBoard<R>> {
-    match TriedBoard::new(house, call) {
+fn empty_board<R: Handle>(shared: &Arc<Shared<R>>, call: Option<u64>) -> io::Result<EmptyBoard<R>> {
+    match TriedBoard::new(shared, call) {
         Ok(board) => Ok(EmptyBoard { board }),
         Err(_) => Err(no_memory()),
     }
@@ -147,20 +147,31 @@ fn empty_board<R: Handle>(house: &Arc<House<R>>, call: Option<u64>) -> io::Resul
 
 /// A thread that serves at the seat, if there is memory for it.
 fn started<R: Handle + Send + Sync + 'static>(
-    house: Arc<House<R>>,
+    shared: Arc<Shared<R>>,
     seat: IdleSeat,
     board: EmptyBoard<R>,
     flag: Flag,
     raised: Flag,
 ) -> Option<Thread<Left>> {
-    let rt = house.rt;
-    let handle = spawn(&rt, move || serve(&house, seat, board, &raised)).ok()?;
+    let rt = shared.rt;
+    let handle = spawn(&rt, move || serve(&shared, seat, board, &raised)).ok()?;
     Some(Thread { handle, flag })
 }
 
 /// Serves with a board until the worker ends. Returns what is left of it.
-fn serve<R: Handle>(house: &House<R>, seat: IdleSeat, board: EmptyBoard<R>, raised: &Flag) -> Left {
-    let (seat, board, ended) = serve_board(&house.rt, seat.seat, board.board, &house.cache, house);
+fn serve<R: Handle>(
+    shared: &Shared<R>,
+    seat: IdleSeat,
+    board: EmptyBoard<R>,
+    raised: &Flag,
+) -> Left {
+    let (seat, board, ended) = serve_board(
+        &shared.rt,
+        seat.seat,
+        board.board,
+        &shared.cache,
+        shared,
+    );
     raised.raise();
     Left {
         seat: IdleSeat { seat },

@@ -15,13 +15,13 @@
 //! Stands on: `cam6_arguments`, `cam6_web_words`, `cam6_web_door`, `cam6_web_talk`,
 //! `cam6_web_machine`; `cam6_planes`, for what it hands on.
 //!
-//! Read next: `visitors`, the counts of connections; `halls`, what the threads share; `visits`, a
+//! Read next: `visitors`, the counts of connections; `states`, what the threads share; `visits`, a
 //! connection; `links`, its bytes; `servers`, all of them.
 #![tactic(auto)]
 
-mod halls;
 mod links;
 mod servers;
+mod states;
 mod visitors;
 mod visits;
 
@@ -31,8 +31,8 @@ ghost use Rattle.cam6_web_words.specs.Statuses.{fault as fault_told};
 
 use cam6_arguments::{Program, Refused, failed, refuse, words_given};
 use cam6_web_words::{Fault, Options, fault_of, options_of_web};
-use halls::Handle;
 use servers::serve_pages;
+use states::Handle;
 use std::env::Env;
 use std::net::{Ipv4Addr, Net, TcpListener, TcpStream};
 use std::process::ExitCode;

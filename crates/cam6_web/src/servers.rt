@@ -1,6 +1,6 @@
 //! A server of pages: a thread for each connection.
 
-use crate::halls::{Hall, Handle};
+use crate::states::{Handle, ServerState};
 use crate::visitors::Visitors;
 use crate::visits::receive;
 use cam6_web_door::{Door, Hosts, Names};
@@ -27,23 +27,23 @@ pub fn serve_pages<
     R: Handle + Net<Listener = TcpListener, Stream = TcpStream> + Eprint + Send + Sync + 'static,
 >(rt: R, listener: TcpListener, options: Options) -> Result<(), Fault> {
     let requests = options.requests;
-    let Ok(hall) = open(rt, options) else {
+    let Ok(server) = open(rt, options) else {
         return Err(Fault::NoMemory);
     };
-    accept(rt, &hall, listener, requests);
-    hall.wait();
+    accept(rt, &server, listener, requests);
+    server.wait();
     Ok(())
 }
 
 /// What the threads of a server share.
-fn open<R: Handle>(rt: R, options: Options) -> Result<Arc<Hall<R>>, AllocError> {
+fn open<R: Handle>(rt: R, options: Options) -> Result<Arc<ServerState<R>>, AllocError> {
     let alloc = rt.alloc();
     let mut names = Names::new(alloc, options.port)?;
     for name in options.names.as_slice() {
         names.add(name.as_str())?;
     }
     let hosts = Hosts::new(alloc, options.hosts.len())?;
-    let hall = Hall {
+    let server = ServerState {
         rt,
         door: Door { names, hosts },
         hosts: options.hosts,
@@ -51,20 +51,20 @@ fn open<R: Handle>(rt: R, options: Options) -> Result<Arc<Hall<R>>, AllocError> 
         visitors: Mutex::new(Visitors::new(options.connections)),
         left: Condvar::new(),
     };
-    Ok(Arc::new(alloc, hall)?)
+    Ok(Arc::new(alloc, server)?)
 }
 
 /// Accepts so many connections, or connections without end if the number is 0. Then closes the
 /// listener.
 fn accept<
     R: Handle + Net<Listener = TcpListener, Stream = TcpStream> + Eprint + Send + Sync + 'static,
->(rt: R, hall: &Arc<Hall<R>>, listener: TcpListener, requests: u64) {
+>(rt: R, server: &Arc<ServerState<R>>, listener: TcpListener, requests: u64) {
     let mut accepted: u64 = 0;
     let mut quiet: u32 = 0;
     for stream in listener.incoming() {
         match stream {
             Ok(stream) => {
-                receive(hall, stream);
+                receive(server, stream);
                 accepted = accepted.wrapping_add(1);
                 if accepted == requests {
                     break;

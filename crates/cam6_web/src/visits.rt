@@ -1,7 +1,7 @@
 //! Connections, each in a thread of its own.
 
-use crate::halls::{Hall, Handle};
 use crate::links::Link;
+use crate::states::{Handle, ServerState};
 use crate::visitors::Standing;
 use cam6_web_door::{Opening, Site, Way, greet};
 use cam6_web_machine::PrivateMachine;
@@ -28,25 +28,25 @@ const READ_SIZE: usize = 65_536;
 /// Answers a connection in a thread of its own. Closes it at once if too many connections wait for an
 /// answer, or if there is no thread or no memory for it.
 pub fn receive<R: Handle + Net<Listener = TcpListener, Stream = TcpStream> + Send + Sync + 'static>(
-    hall: &Arc<Hall<R>>,
+    server: &Arc<ServerState<R>>,
     stream: TcpStream,
 ) {
-    if !hall.enter() {
+    if !server.enter() {
         return;
     }
-    if begin(hall, stream).is_none() {
-        hall.leave(Standing::Greeted);
+    if begin(server, stream).is_none() {
+        server.leave(Standing::Greeted);
     }
 }
 
 /// Starts the thread of a connection, which nobody joins. Returns `None` if there is no thread or
 /// no memory for it.
 fn begin<R: Handle + Net<Listener = TcpListener, Stream = TcpStream> + Send + Sync + 'static>(
-    hall: &Arc<Hall<R>>,
+    server: &Arc<ServerState<R>>,
     stream: TcpStream,
 ) -> Option<()> {
-    let theirs = Arc::try_clone(hall).ok()?;
-    let thread = spawn(&hall.rt, move || attend(&theirs, stream)).ok()?;
+    let theirs = Arc::try_clone(server).ok()?;
+    let thread = spawn(&server.rt, move || attend(&theirs, stream)).ok()?;
     // Its memory is freed when it ends.
     drop(thread);
     Some(())
@@ -54,12 +54,12 @@ fn begin<R: Handle + Net<Listener = TcpListener, Stream = TcpStream> + Send + Sy
 
 /// Answers a connection, closes it, and then makes its place free.
 fn attend<R: Handle + Net<Listener = TcpListener, Stream = TcpStream>>(
-    hall: &Hall<R>,
+    server: &ServerState<R>,
     stream: TcpStream,
 ) {
-    let standing = visit(hall, &stream);
+    let standing = visit(server, &stream);
     drop(stream);
-    hall.leave(standing);
+    server.leave(standing);
 }
 
 /// Answers a connection. Returns what it had at the end.
@@ -67,19 +67,19 @@ fn attend<R: Handle + Net<Listener = TcpListener, Stream = TcpStream>>(
 /// A request for a socket has its place before it is answered, so that the answer says whether there
 /// is room.
 fn visit<'a, R: Handle + Net<Listener = TcpListener, Stream = TcpStream>>(
-    hall: &'a Hall<R>,
+    server: &'a ServerState<R>,
     stream: &'a TcpStream,
 ) -> Standing {
-    let Ok(link) = Link::new(&hall.rt, stream) else {
+    let Ok(link) = Link::new(&server.rt, stream) else {
         return Standing::Greeted;
     };
-    let standing = if link.asks_for_socket() && hall.open() {
+    let standing = if link.asks_for_socket() && server.open() {
         Standing::Talking
     } else {
         Standing::Greeted
     };
-    match greeted(hall, &link, standing == Standing::Talking) {
-        Ok(Some(opening)) => converse(hall, &link, opening),
+    match greeted(server, &link, standing == Standing::Talking) {
+        Ok(Some(opening)) => converse(server, &link, opening),
         Ok(None) => {}
         Err(_) => return standing,
     }
@@ -90,33 +90,33 @@ fn visit<'a, R: Handle + Net<Listener = TcpListener, Stream = TcpStream>>(
 
 /// Answers the requests of a connection. Returns the opening if the last answer opened a socket.
 fn greeted<R: Handle>(
-    hall: &Hall<R>,
+    server: &ServerState<R>,
     link: &Link<'_, R>,
     has_room: bool,
 ) -> io::Result<Option<Opening>> {
-    let alloc = hall.rt.alloc();
-    let mut site = Site::new(alloc, &hall.door, has_room);
-    greet(&hall.rt, alloc, &mut site, &mut &*link, &mut &*link)
+    let alloc = server.rt.alloc();
+    let mut site = Site::new(alloc, &server.door, has_room);
+    greet(&server.rt, alloc, &mut site, &mut &*link, &mut &*link)
 }
 
 /// Carries the messages of a page to where its socket leads.
 fn converse<R: Handle + Net<Listener = TcpListener, Stream = TcpStream>>(
-    hall: &Hall<R>,
+    server: &ServerState<R>,
     link: &Link<'_, R>,
     opening: Opening,
 ) {
     let Opening { way, unread } = opening;
     match way {
-        Way::Own => talk_to_machine(hall, link, unread),
-        Way::Host(number) => talk_to_host(hall, link, unread, number),
+        Way::Own => talk_to_machine(server, link, unread),
+        Way::Host(number) => talk_to_host(server, link, unread, number),
     }
 }
 
 /// Carries the messages of a page to a machine of its own. If there is no memory for one, turns the
 /// page away.
-fn talk_to_machine<R: Handle>(hall: &Hall<R>, link: &Link<'_, R>, unread: Vec<u8>) {
-    let alloc = hall.rt.alloc();
-    match PrivateMachine::new(alloc, hall.limit) {
+fn talk_to_machine<R: Handle>(server: &ServerState<R>, link: &Link<'_, R>, unread: Vec<u8>) {
+    let alloc = server.rt.alloc();
+    match PrivateMachine::new(alloc, server.limit) {
         Ok(mut machine) => {
             talk(alloc, link, unread, &mut machine);
         }
@@ -127,13 +127,13 @@ fn talk_to_machine<R: Handle>(hall: &Hall<R>, link: &Link<'_, R>, unread: Vec<u8
 /// Carries the messages of a page to the host of this number. If it can't be reached, turns the
 /// page away.
 fn talk_to_host<R: Handle + Net<Listener = TcpListener, Stream = TcpStream>>(
-    hall: &Hall<R>,
+    server: &ServerState<R>,
     link: &Link<'_, R>,
     unread: Vec<u8>,
     number: usize,
 ) {
-    let alloc = hall.rt.alloc();
-    let Ok(stream) = reach(hall, number) else {
+    let alloc = server.rt.alloc();
+    let Ok(stream) = reach(server, number) else {
         return turn_away(alloc, link, unread, Away::NoHost);
     };
     let Ok(reader) = BufReader::with_capacity(alloc, READ_SIZE, &stream) else {
@@ -145,14 +145,14 @@ fn talk_to_host<R: Handle + Net<Listener = TcpListener, Stream = TcpStream>>(
 
 /// Connects to the host of this number, counted from 1, within ten seconds.
 fn reach<R: Handle + Net<Listener = TcpListener, Stream = TcpStream>>(
-    hall: &Hall<R>,
+    server: &ServerState<R>,
     number: usize,
 ) -> io::Result<TcpStream> {
-    let Some(address) = hall.hosts.get(number.wrapping_sub(1)) else {
+    let Some(address) = server.hosts.get(number.wrapping_sub(1)) else {
         return Err(io::Error::from(ErrorKind::NotFound));
     };
     let timeout = Duration::from_secs(CONNECT_SECONDS);
-    let stream = TcpStream::connect_timeout(&hall.rt, address, timeout)?;
+    let stream = TcpStream::connect_timeout(&server.rt, address, timeout)?;
     stream.set_nodelay(true)?;
     stream.set_read_timeout(Some(Duration::from_secs(ANSWER_SECONDS)))?;
     stream.set_write_timeout(Some(Duration::from_secs(HAND_SECONDS)))?;

@@ -1,7 +1,7 @@
 use Rattle.cam6_server.proofs.hosts.open.Goals as goal
 
-pub hall_of-requires-clause-desks : goal.hall_of-requires-clause-desks
-hall_of-requires-clause-desks g c = λ i desk at. record {
+pub host_of-requires-clause-desks : goal.host_of-requires-clause-desks
+host_of-requires-clause-desks g c = λ i desk at. record {
   own = c.blank_desks_are_their_users.ensures.law _ _ c.in_ok-desks.ensures.desks i desk at;
   rests = c.blank_desks_rest.ensures.law _ _ c.in_ok-desks.ensures.desks i desk at;
 }

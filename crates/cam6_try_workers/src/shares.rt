@@ -10,7 +10,7 @@ use std::sync::atomic::{AtomicBool, Ordering};
 
 /// The tables that boards share, the gate, and where a board is held.
 #[derive(Drop)]
-pub struct House<R: Handle> {
+pub struct Shared<R: Handle> {
     pub rt: R,
     pub cache: Mutex<TableCache>,
     pub watch: Mutex<Watch>,
@@ -21,9 +21,9 @@ pub struct House<R: Handle> {
     is_ending: AtomicBool,
 }
 
-impl<R: Handle> House<R> {
-    pub fn new(rt: R, cache: TableCache, once: Option<Once>, holds_bands: bool) -> House<R> {
-        House {
+impl<R: Handle> Shared<R> {
+    pub fn new(rt: R, cache: TableCache, once: Option<Once>, holds_bands: bool) -> Shared<R> {
+        Shared {
             rt,
             cache: Mutex::new(cache),
             watch: Mutex::new(Watch::new(rt.alloc(), once)),
@@ -39,7 +39,7 @@ impl<R: Handle> House<R> {
     }
 }
 
-impl<R: Handle> Gate for House<R> {
+impl<R: Handle> Gate for Shared<R> {
     fn turn(&self, board: u8, user: u8, band: u8) -> Turn {
         let mut watch = self.watch.lock(&self.rt);
         let (turn, holds) = watch.turn(board, user, band);

@@ -15,7 +15,7 @@ impl<R: Threads + Wait + Clock + AllocGlobal + Copy + Drop> Handle for R {}
 
 /// The tables that boards share, the gate of the boards, and the desks at which nobody sits.
 #[derive(Drop)]
-pub struct Hall<R: Handle> {
+pub struct HostState<R: Handle> {
     pub rt: R,
     pub cache: Mutex<TableCache>,
     pub gate: SlicingGate<R>,
@@ -24,8 +24,8 @@ pub struct Hall<R: Handle> {
 
 /// The state of the server: that of the host, and its clients.
 #[derive(Drop)]
-pub struct House<R: Handle> {
-    pub hall: Hall<R>,
+pub struct ServerState<R: Handle> {
+    pub host: HostState<R>,
     pub guests: Mutex<Guests>,
     /// Notified when the last client goes.
     pub left: Condvar,
@@ -33,20 +33,20 @@ pub struct House<R: Handle> {
     pub idle: Option<Duration>,
 }
 
-impl<R: Handle> House<R> {
+impl<R: Handle> ServerState<R> {
     /// Lets one more client wait for a seat, or returns false if there is no room.
     pub fn enter(&self) -> bool {
-        self.guests.lock(&self.hall.rt).enter()
+        self.guests.lock(&self.host.rt).enter()
     }
 
     /// Whether any client has ever had a seat.
     pub fn was_seated(&self) -> bool {
-        self.guests.lock(&self.hall.rt).was_seated()
+        self.guests.lock(&self.host.rt).was_seated()
     }
 
     /// Removes a client that had this standing, and notifies `left` if it was the last one.
     pub fn leave(&self, standing: Standing) {
-        let mut guests = self.guests.lock(&self.hall.rt);
+        let mut guests = self.guests.lock(&self.host.rt);
         guests.leave(standing);
         if guests.are_none() {
             self.left.notify_all();
@@ -55,7 +55,7 @@ impl<R: Handle> House<R> {
 
     /// Waits until no client is connected.
     pub fn wait(&self) {
-        let rt = &self.hall.rt;
+        let rt = &self.host.rt;
         let guests = self.guests.lock(rt);
         self.left
             .wait_while(rt, guests, |guests| !guests.are_none());

@@ -16,7 +16,7 @@ impl<R: Threads + Wait + Clock + RandomSource + AllocGlobal + Copy + Drop> Handl
 
 /// The router of the server, the hosts, the largest side of a page's own machine, and the connections.
 #[derive(Drop)]
-pub struct Hall<R: Handle> {
+pub struct ServerState<R: Handle> {
     pub rt: R,
     pub door: Door,
     pub hosts: Vec<SocketAddr>,
@@ -26,7 +26,7 @@ pub struct Hall<R: Handle> {
     pub left: Condvar,
 }
 
-impl<R: Handle> Hall<R> {
+impl<R: Handle> ServerState<R> {
     /// Lets one more connection wait for an answer, or returns false if there is no room.
     pub fn enter(&self) -> bool {
         self.visitors.lock(&self.rt).enter()

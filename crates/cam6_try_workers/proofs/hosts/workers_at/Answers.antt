@@ -1,7 +1,7 @@
 use Rattle.std.proofs.Common.{sym, subst}
 use Rattle.cam6_handoff.specs.Holding.{AreIdle}
 use Rattle.cam6_handoff.proofs.Idle.{first_idle, rest_idle}
-use Rattle.cam6_try_workers.proofs.halls.workers_at.Goals as goal
+use Rattle.cam6_try_workers.proofs.hosts.workers_at.Goals as goal
 
 pub loop-seat-init : goal.loop-seat-init
 loop-seat-init c =

@@ -1,5 +1,5 @@
 use Rattle.cam6_handoff.specs.Holding.{AreIdle}
-use Rattle.cam6_try_workers.proofs.halls.workers_at.Given as goal
+use Rattle.cam6_try_workers.proofs.hosts.workers_at.Given as goal
 
 -- the seats that are left
 abbrev pub invariant-loop-seat : goal.invariant-loop-seat

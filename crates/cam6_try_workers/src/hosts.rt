@@ -2,7 +2,7 @@
 //! line asks for. Users are numbered from 1, boards from 0. What can't be done as things are is `no`.
 ghost use Rattle.cam6_handoff.specs.Holding.{AreIdle};
 
-use crate::houses::House;
+use crate::shares::Shared;
 use crate::threads::{Handle, LOOKS, pause};
 use crate::users::User;
 use crate::ways::{Event, WorkerWay};
@@ -21,22 +21,22 @@ const CACHED: usize = 16;
 
 /// The users and the workers, and what these share.
 #[derive(Drop)]
-pub struct Hall<R: Handle> {
-    house: Arc<House<R>>,
+pub struct TestHost<R: Handle> {
+    shared: Arc<Shared<R>>,
     users: Vec<User>,
     workers: Vec<Worker>,
 }
 
-impl<R: Handle + Send + Sync + 'static> Hall<R> {
-    /// A hall with a desk for each user, and a seat for each worker. No worker serves yet.
-    pub fn new(rt: R, way: &WorkerWay) -> Result<Hall<R>, NoMemory> {
+impl<R: Handle + Send + Sync + 'static> TestHost<R> {
+    /// A host with a desk for each user, and a seat for each worker. No worker serves yet.
+    pub fn new(rt: R, way: &WorkerWay) -> Result<TestHost<R>, NoMemory> {
         let alloc = rt.alloc();
-        let house = house_of(rt, way.event)?;
+        let shared = shared_of(rt, way.event)?;
         let limits = vec![in alloc; Side::S256; way.users]?;
         let (desks, seats) = boot(alloc, way.users, way.boards as u8, limits.as_slice())?;
         let (users, workers) = people_at(alloc, desks, seats)?;
-        Ok(Hall {
-            house,
+        Ok(TestHost {
+            shared,
             users,
             workers,
         })
@@ -52,7 +52,7 @@ impl<R: Handle + Send + Sync + 'static> Hall<R> {
     ) -> io::Result<()> {
         for (board, worker) in self.workers.iter_mut().enumerate() {
             let fails = matches!(event, Event::Fails { .. }) && board == 0;
-            worker.serve(&self.house, if fails { Some(call) } else { None })?;
+            worker.serve(&self.shared, if fails { Some(call) } else { None })?;
         }
         for line in sent {
             let line = str::from_utf8(line.bytes.as_slice()).unwrap_or("");
@@ -64,10 +64,10 @@ impl<R: Handle + Send + Sync + 'static> Hall<R> {
 
     /// Lets a board that is held go on, tells all workers to end, and joins those that do.
     pub fn end(&mut self) {
-        self.house.hold.end(&self.house.rt);
-        self.house.tell_to_end(true);
+        self.shared.hold.end(&self.shared.rt);
+        self.shared.tell_to_end(true);
         for worker in self.workers.iter_mut() {
-            worker.join(&self.house.rt);
+            worker.join(&self.shared.rt);
         }
     }
 
@@ -83,14 +83,14 @@ impl<R: Handle + Send + Sync + 'static> Hall<R> {
             "faults" => self.faults(index),
             _ => {
                 let words = self.of_all(word, index)?;
-                text(self.house.rt.alloc(), words)
+                text(self.shared.rt.alloc(), words)
             }
         }
     }
 
     /// What comes back for a line that names a user's desk.
     fn of_user(&mut self, word: &str, number: usize, line: &str) -> io::Result<String> {
-        let rt = self.house.rt;
+        let rt = self.shared.rt;
         let Some(user) = self.users.get_mut(number.wrapping_sub(1)) else {
             return text(rt.alloc(), "no");
         };
@@ -108,8 +108,8 @@ impl<R: Handle + Send + Sync + 'static> Hall<R> {
 
     /// What comes back for a line that asks what the gate was asked.
     fn of_gate(&self, word: &str, user: usize, rest: &str) -> io::Result<String> {
-        let rt = self.house.rt;
-        let watch = self.house.watch.lock(&rt);
+        let rt = self.shared.rt;
+        let watch = self.shared.watch.lock(&rt);
         if word == "asked" {
             return watch.bands(rt.alloc(), user);
         }
@@ -119,7 +119,7 @@ impl<R: Handle + Send + Sync + 'static> Hall<R> {
 
     /// The bands left of a user's command, at the seat of a worker that has ended.
     fn left(&mut self, board: usize, user: usize) -> io::Result<String> {
-        let alloc = self.house.rt.alloc();
+        let alloc = self.shared.rt.alloc();
         let Some(worker) = self.workers.get_mut(board) else {
             return text(alloc, "no");
         };
@@ -134,7 +134,7 @@ impl<R: Handle + Send + Sync + 'static> Hall<R> {
 
     /// How often the board of a worker that has ended failed.
     fn faults(&self, board: usize) -> io::Result<String> {
-        let alloc = self.house.rt.alloc();
+        let alloc = self.shared.rt.alloc();
         match self
             .workers
             .get(board)
@@ -147,11 +147,11 @@ impl<R: Handle + Send + Sync + 'static> Hall<R> {
 
     /// The words that come back for any other line.
     fn of_all(&mut self, word: &str, number: usize) -> io::Result<&'static str> {
-        let rt = self.house.rt;
+        let rt = self.shared.rt;
         match word {
-            "held" => Ok(yes_or_no(self.house.hold.is_holding(&rt))),
-            "release" => Ok(yes_or_no(self.house.hold.release(&rt))),
-            "evict" => Ok(yes_or_no(self.house.cache.lock(&rt).evict_oldest())),
+            "held" => Ok(yes_or_no(self.shared.hold.is_holding(&rt))),
+            "release" => Ok(yes_or_no(self.shared.hold.release(&rt))),
+            "evict" => Ok(yes_or_no(self.shared.cache.lock(&rt).evict_oldest())),
             "running" => Ok(yes_or_no(self.are_running(number))),
             "ended" => Ok(self.ended(number)),
             "serve" => self.serve(number),
@@ -175,7 +175,7 @@ impl<R: Handle + Send + Sync + 'static> Hall<R> {
             {
                 return true;
             }
-            pause(&self.house.rt);
+            pause(&self.shared.rt);
         }
         false
     }
@@ -185,7 +185,7 @@ impl<R: Handle + Send + Sync + 'static> Hall<R> {
         let Some(worker) = self.workers.get_mut(board) else {
             return "no";
         };
-        match worker.join(&self.house.rt) {
+        match worker.join(&self.shared.rt) {
             Some(Ended::Stopped) => "stopped",
             Some(Ended::Dead) => "dead",
             None => "no",
@@ -197,8 +197,8 @@ impl<R: Handle + Send + Sync + 'static> Hall<R> {
         let Some(worker) = self.workers.get_mut(board) else {
             return Ok("no");
         };
-        self.house.tell_to_end(false);
-        let is_started = worker.serve(&self.house, None)?;
+        self.shared.tell_to_end(false);
+        let is_started = worker.serve(&self.shared, None)?;
         Ok(if is_started { "started" } else { "no" })
     }
 }
@@ -212,14 +212,14 @@ fn text(alloc: Global, words: &str) -> io::Result<String> {
 }
 
 /// All that the threads share.
-fn house_of<R: Handle>(rt: R, event: Event) -> Result<Arc<House<R>>, NoMemory> {
+fn shared_of<R: Handle>(rt: R, event: Event) -> Result<Arc<Shared<R>>, NoMemory> {
     let cache = TableCache::new(rt.alloc(), CACHED)?;
     let once = match event {
         Event::AtGate(once) => Some(once),
         _ => None,
     };
     let holds_bands = matches!(event, Event::InBand);
-    Ok(Arc::new(rt.alloc(), House::new(rt, cache, once, holds_bands))?)
+    Ok(Arc::new(rt.alloc(), Shared::new(rt, cache, once, holds_bands))?)
 }
 
 /// Users at their desks, and seats at which nobody serves.
