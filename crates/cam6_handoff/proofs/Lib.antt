@@ -5,7 +5,7 @@ pub mod Rows
 -- Each kind of step keeps the rule.
 pub mod Keeps
 -- What a board's seat has in the table, where it says that it holds something.
-pub mod Chairs
+pub mod Tokens
 -- What is put and then collected is asked.
 pub mod Asking
 -- Desks and seats, one more after the others.

@@ -1,3 +1,3 @@
 -- How the code keeps it: no public contract says it.
-pub mod Chairs
+pub mod Tokens
 pub mod Cutting

@@ -7,7 +7,7 @@ ghost use Rattle.cam6_handoff.specs.Steps.{IsAt};
 
 use crate::rule::{Counts, Handing, View};
 use crate::steps;
-use crate::steps::Chair;
+use crate::steps::Token;
 use atomic_table::Table;
 use cam6_commands::{Command, Reply};
 use cam6_machine::Now;
@@ -23,7 +23,7 @@ pub(crate) type HandTable = Table<Option<Place>, View, Counts, Handing, Global>;
 #[derive(Drop)]
 pub struct Desk {
     table: Arc<HandTable>,
-    seat: Chair,
+    seat: Token,
     /// The user's row in the table.
     row: usize,
     resting: Option<Resting>,
@@ -33,7 +33,7 @@ impl Model for Desk {
     ghost use Rattle.std.specs.Arc.{arc_value};
     ghost use Rattle.cam6_handoff.specs.Steps.{IsAt};
     ghost use Rattle.cam6_handoff.specs.Standing.{Stance};
-    ghost use Rattle.cam6_handoff.specs.Internal.Chairs.{stance_of, DeskChair};
+    ghost use Rattle.cam6_handoff.specs.Internal.Tokens.{stance_of, DeskToken};
 
     ghost Value = { Stance };
 
@@ -41,7 +41,7 @@ impl Model for Desk {
 
     ghost invariant = { λ d.
         IsAt (arc_value d.table).shared.table_id (arc_value d.table).shared.key.users
-        d.seat.table_id d.row × DeskChair d.row d.resting d.seat.me };
+        d.seat.table_id d.row × DeskToken d.row d.resting d.seat.me };
 }
 
 /// What comes of a command that is put at a desk.
@@ -144,7 +144,7 @@ impl Desk {
 }
 
 /// Makes a desk with a machine, from a seat that has taken its slot.
-pub(crate) fn desk_of(table: Arc<HandTable>, seat: Chair, row: usize, resting: Resting) -> Desk
+pub(crate) fn desk_of(table: Arc<HandTable>, seat: Token, row: usize, resting: Resting) -> Desk
     requires at { IsAt (arc_value table).shared.table_id (arc_value table).shared.key.users
         seat.table_id row }
     requires rests { seat.me ≡ (Rests row, (row, None) ∷ []) }

@@ -6,13 +6,13 @@ ghost use Rattle.cam6_slot.specs.Needs.{needs_of};
 ghost use Rattle.cam6_station.specs.Loading.{FitUpTo};
 ghost use Rattle.cam6_handoff.specs.declared.rule.View.TheVariants.{Idle};
 ghost use Rattle.cam6_handoff.specs.Holding.{nothing};
-ghost use Rattle.cam6_handoff.specs.Internal.Chairs.{BoardChair};
+ghost use Rattle.cam6_handoff.specs.Internal.Tokens.{BoardToken};
 
 use crate::desks::HandTable;
 use crate::permits::FillPermit;
 use crate::queues::{Queue, queue_of};
 use crate::steps;
-use crate::steps::Chair;
+use crate::steps::Token;
 use cam6_board::{Job, Tables};
 use cam6_cache::TableCache;
 use cam6_planes::NoMemory;
@@ -25,7 +25,7 @@ use std::sync::{Arc, Mutex, Wait};
 #[derive(Drop)]
 pub struct BoardSeat {
     table: Arc<HandTable>,
-    seat: Chair,
+    seat: Token,
     board: u8,
     users: usize,
     /// The row of the user whose place was taken.
@@ -40,14 +40,14 @@ const FEW: u8 = 2;
 impl Model for BoardSeat {
     ghost use Rattle.std.specs.Arc.{arc_value};
     ghost use Rattle.cam6_handoff.specs.Holding.{BoardStance};
-    ghost use Rattle.cam6_handoff.specs.Internal.Chairs.{board_stance, BoardChair};
+    ghost use Rattle.cam6_handoff.specs.Internal.Tokens.{board_stance, BoardToken};
 
     ghost Value = { BoardStance };
 
     ghost view = { λ s. board_stance s.board s.users s.filling s.seat.me.0 };
 
     ghost invariant = { λ s.
-        BoardChair (arc_value s.table).shared.table_id (arc_value s.table).shared.key.users
+        BoardToken (arc_value s.table).shared.table_id (arc_value s.table).shared.key.users
         s.users s.seat.table_id s.board s.taken s.seat.me };
 }
 
@@ -215,13 +215,13 @@ fn fill_at_most<R: Wait>(
 /// The seat of an idle board.
 pub(crate) fn seat_of(
     table: Arc<HandTable>,
-    seat: Chair,
+    seat: Token,
     board: u8,
     users: usize,
     filling: Filling,
     permit: Arc<FillPermit>,
 ) -> BoardSeat
-    requires { BoardChair (arc_value table).shared.table_id (arc_value table).shared.key.users
+    requires { BoardToken (arc_value table).shared.table_id (arc_value table).shared.key.users
         users seat.table_id board None seat.me }
     ensures { result ≡ record { number = board; users = users; holds = nothing; tables = filling } }
 {

@@ -15,7 +15,7 @@ use crate::permits::FillPermit;
 use crate::rule::{Counts, View};
 use crate::seats::{BoardSeat, seat_of};
 use crate::steps;
-use crate::steps::Chair;
+use crate::steps::Token;
 use atomic_table::{Split, Table};
 use cam6_commands::MAX_USERS;
 use cam6_machine::Machine;
@@ -42,7 +42,7 @@ impl Split<View> for BoardCut {
 }
 
 /// Cuts the seat of a row's desk from the first seat, and returns the desk with this machine.
-fn cut_desk(table: Arc<HandTable>, first: &mut Chair, row: usize, resting: Resting) -> Desk
+fn cut_desk(table: Arc<HandTable>, first: &mut Token, row: usize, resting: Resting) -> Desk
     requires of { IsFirstOf (arc_value table).shared.table_id
         (arc_value table).shared.key.users first.old.table_id }
     requires row { row < (arc_value table).shared.key.users }
@@ -59,7 +59,7 @@ fn cut_desk(table: Arc<HandTable>, first: &mut Chair, row: usize, resting: Resti
 /// Cuts the next board's seat.
 fn cut_board(
     table: Arc<HandTable>,
-    first: &mut Chair,
+    first: &mut Token,
     users: usize,
     board: u8,
     filling: Filling,
@@ -82,7 +82,7 @@ fn cut_board(
 fn cut_desks(
     alloc: Global,
     table: &Arc<HandTable>,
-    first: &mut Chair,
+    first: &mut Token,
     limits: &[Side],
 ) -> Result<Vec<Desk>, NoMemory>
     requires of { IsFirstOf (arc_value table.now).shared.table_id
@@ -102,7 +102,7 @@ fn cut_desks(
 fn add_desks(
     alloc: Global,
     table: &Arc<HandTable>,
-    first: &mut Chair,
+    first: &mut Token,
     limits: &[Side],
     desks: &mut Vec<Desk>,
 ) -> Result<(), NoMemory>
@@ -126,7 +126,7 @@ fn add_desks(
 fn new_desk(
     alloc: Global,
     table: &Arc<HandTable>,
-    first: &mut Chair,
+    first: &mut Token,
     row: usize,
     limit: Side,
 ) -> Result<Desk, NoMemory>
@@ -147,7 +147,7 @@ fn new_desk(
 fn cut_seats(
     alloc: Global,
     table: &Arc<HandTable>,
-    first: &mut Chair,
+    first: &mut Token,
     users: usize,
     boards: u8,
 ) -> Result<Vec<BoardSeat>, NoMemory>
@@ -168,7 +168,7 @@ fn cut_seats(
 fn add_seats(
     alloc: Global,
     table: &Arc<HandTable>,
-    first: &mut Chair,
+    first: &mut Token,
     users: usize,
     boards: u8,
     permit: &Arc<FillPermit>,
@@ -193,7 +193,7 @@ fn add_seats(
 fn new_seat(
     alloc: Global,
     table: &Arc<HandTable>,
-    first: &mut Chair,
+    first: &mut Token,
     users: usize,
     board: u8,
     permit: &Arc<FillPermit>,
@@ -216,7 +216,7 @@ fn new_seat(
 fn cut(
     alloc: Global,
     table: &Arc<HandTable>,
-    first: &mut Chair,
+    first: &mut Token,
     users: usize,
     boards: u8,
     limits: &[Side],

@@ -27,9 +27,9 @@ pub(crate) const DONE: u64 = 2;
 /// Board 0 has the command. The word of board b is b more.
 pub(crate) const OUT: u64 = 3;
 
-pub(crate) type Shelf = Shared<Option<Place>, View, Counts, Handing>;
+pub(crate) type SharedTable = Shared<Option<Place>, View, Counts, Handing>;
 
-pub(crate) type Chair = Seat<Option<Place>, View>;
+pub(crate) type Token = Seat<Option<Place>, View>;
 
 struct Putting;
 
@@ -68,41 +68,41 @@ impl Play<Option<Place>, View> for Sitting {
 }
 
 /// A desk takes its slot for the first time.
-pub(crate) fn sit(shelf: &Shelf, chair: &mut Chair, row: usize)
-    requires at { IsAt shelf.now.table_id shelf.now.key.users chair.old.table_id row }
-    requires unseated { chair.old.me ≡ (Unseated row, []) }
-    ensures at { IsAt shelf.now.table_id shelf.now.key.users chair.new.table_id row }
-    ensures rests { chair.new.me ≡ (Rests row, (row, None) ∷ []) }
+pub(crate) fn sit(table: &SharedTable, token: &mut Token, row: usize)
+    requires at { IsAt table.now.table_id table.now.key.users token.old.table_id row }
+    requires unseated { token.old.me ≡ (Unseated row, []) }
+    ensures at { IsAt table.now.table_id table.now.key.users token.new.table_id row }
+    ensures rests { token.new.me ≡ (Rests row, (row, None) ∷ []) }
 {
-    shelf.load::<Sitting>(chair, row);
+    table.load::<Sitting>(token, row);
 }
 
 /// A desk puts what is asked into its slot, to wait for a board.
-pub(crate) fn put(shelf: &Shelf, chair: &mut Chair, row: usize, queued: Queued)
-    requires at { IsAt shelf.now.table_id shelf.now.key.users chair.old.table_id row }
-    requires rests { chair.old.me ≡ (Rests row, (row, None) ∷ []) }
+pub(crate) fn put(table: &SharedTable, token: &mut Token, row: usize, queued: Queued)
+    requires at { IsAt table.now.table_id table.now.key.users token.old.table_id row }
+    requires rests { token.old.me ≡ (Rests row, (row, None) ∷ []) }
     requires asked { StandsForAsked queued queued }
-    ensures at { IsAt shelf.now.table_id shelf.now.key.users chair.new.table_id row }
-    ensures waits { chair.new.me ≡ (Waits row queued, []) }
+    ensures at { IsAt table.now.table_id table.now.key.users token.new.table_id row }
+    ensures waits { token.new.me ≡ (Waits row queued, []) }
 {
-    drop(shelf.exchange(chair, row, Some(Place::Queued(queued))));
-    let found = shelf.swap::<Putting>(chair, row, READY);
+    drop(table.exchange(token, row, Some(Place::Queued(queued))));
+    let found = table.swap::<Putting>(token, row, READY);
     prove!(found == MINE);
 }
 
 /// A desk takes what it asked for, if it is finished.
-pub(crate) fn collect(shelf: &Shelf, chair: &mut Chair, row: usize) -> Option<Finished>
-    requires at { IsAt shelf.now.table_id shelf.now.key.users chair.old.table_id row }
-    requires waits { (asked : StoredQueued) × (chair.old.me ≡ (Waits row asked, [])) }
-    ensures at { IsAt shelf.now.table_id shelf.now.key.users chair.new.table_id row }
-    ensures found { MatchOption result (chair.new.me ≡ chair.old.me)
-        (λ f. (chair.new.me ≡ (Rests row, (row, None) ∷ []))
-        × ((asked : StoredQueued) → chair.old.me ≡ (Waits row asked, []) → IsAskedDone asked f)) }
+pub(crate) fn collect(table: &SharedTable, token: &mut Token, row: usize) -> Option<Finished>
+    requires at { IsAt table.now.table_id table.now.key.users token.old.table_id row }
+    requires waits { (asked : StoredQueued) × (token.old.me ≡ (Waits row asked, [])) }
+    ensures at { IsAt table.now.table_id table.now.key.users token.new.table_id row }
+    ensures found { MatchOption result (token.new.me ≡ token.old.me)
+        (λ f. (token.new.me ≡ (Rests row, (row, None) ∷ []))
+        × ((asked : StoredQueued) → token.old.me ≡ (Waits row asked, []) → IsAskedDone asked f)) }
 {
-    if shelf.compare_exchange::<Collecting>(chair, row, DONE, MINE) != DONE {
+    if table.compare_exchange::<Collecting>(token, row, DONE, MINE) != DONE {
         return None;
     }
-    let place = match shelf.exchange(chair, row, None) {
+    let place = match table.exchange(token, row, None) {
         Some(place) => place,
         None => unreachable!(),
     };
@@ -113,17 +113,17 @@ pub(crate) fn collect(shelf: &Shelf, chair: &mut Chair, row: usize) -> Option<Fi
 }
 
 /// A board takes the user's place, if it waits there.
-pub(crate) fn take(shelf: &Shelf, chair: &mut Chair, row: usize, board: u8) -> Option<Queued>
-    requires at { IsAt shelf.now.table_id shelf.now.key.users chair.old.table_id row }
-    requires idle { chair.old.me ≡ (Idle board, []) }
-    ensures at { IsAt shelf.now.table_id shelf.now.key.users chair.new.table_id row }
-    ensures found { MatchOption result (chair.new.me ≡ chair.old.me)
-        (λ q. chair.new.me ≡ (Holds board row q, (row, None) ∷ [])) }
+pub(crate) fn take(table: &SharedTable, token: &mut Token, row: usize, board: u8) -> Option<Queued>
+    requires at { IsAt table.now.table_id table.now.key.users token.old.table_id row }
+    requires idle { token.old.me ≡ (Idle board, []) }
+    ensures at { IsAt table.now.table_id table.now.key.users token.new.table_id row }
+    ensures found { MatchOption result (token.new.me ≡ token.old.me)
+        (λ q. token.new.me ≡ (Holds board row q, (row, None) ∷ [])) }
 {
-    if shelf.compare_exchange::<Taking>(chair, row, READY, OUT + board as u64) != READY {
+    if table.compare_exchange::<Taking>(token, row, READY, OUT + board as u64) != READY {
         return None;
     }
-    let place = match shelf.exchange(chair, row, None) {
+    let place = match table.exchange(token, row, None) {
         Some(place) => place,
         None => unreachable!(),
     };
@@ -134,34 +134,34 @@ pub(crate) fn take(shelf: &Shelf, chair: &mut Chair, row: usize, board: u8) -> O
 }
 
 /// A board gives a place back, to wait again.
-pub(crate) fn back(shelf: &Shelf, chair: &mut Chair, row: usize, queued: Queued)
-    requires at { IsAt shelf.now.table_id shelf.now.key.users chair.old.table_id row }
+pub(crate) fn back(table: &SharedTable, token: &mut Token, row: usize, queued: Queued)
+    requires at { IsAt table.now.table_id table.now.key.users token.old.table_id row }
     requires holds { (b : ℕ) × (q : StoredQueued)
-        × (chair.old.me ≡ (Holds b row q, (row, None) ∷ [])) }
+        × (token.old.me ≡ (Holds b row q, (row, None) ∷ [])) }
     requires stands { (b : ℕ) (q : StoredQueued) →
-        chair.old.me ≡ (Holds b row q, (row, None) ∷ []) →
+        token.old.me ≡ (Holds b row q, (row, None) ∷ []) →
         (m : Machine) (c : Command) → Stands q m c → Stands queued m c }
-    ensures at { IsAt shelf.now.table_id shelf.now.key.users chair.new.table_id row }
+    ensures at { IsAt table.now.table_id table.now.key.users token.new.table_id row }
     ensures idle { (b : ℕ) (q : StoredQueued) →
-        chair.old.me ≡ (Holds b row q, (row, None) ∷ []) → chair.new.me ≡ (Idle b, []) }
+        token.old.me ≡ (Holds b row q, (row, None) ∷ []) → token.new.me ≡ (Idle b, []) }
 {
-    drop(shelf.exchange(chair, row, Some(Place::Queued(queued))));
-    shelf.swap::<GivingBack>(chair, row, READY);
+    drop(table.exchange(token, row, Some(Place::Queued(queued))));
+    table.swap::<GivingBack>(token, row, READY);
 }
 
 /// A board gives what is finished, and wakes the desk.
-pub(crate) fn done(shelf: &Shelf, chair: &mut Chair, row: usize, finished: Finished)
-    requires at { IsAt shelf.now.table_id shelf.now.key.users chair.old.table_id row }
+pub(crate) fn done(table: &SharedTable, token: &mut Token, row: usize, finished: Finished)
+    requires at { IsAt table.now.table_id table.now.key.users token.old.table_id row }
     requires holds { (b : ℕ) × (q : StoredQueued)
-        × (chair.old.me ≡ (Holds b row q, (row, None) ∷ [])) }
+        × (token.old.me ≡ (Holds b row q, (row, None) ∷ [])) }
     requires is_done { (b : ℕ) (q : StoredQueued) →
-        chair.old.me ≡ (Holds b row q, (row, None) ∷ []) →
+        token.old.me ≡ (Holds b row q, (row, None) ∷ []) →
         (m : Machine) (c : Command) → Stands q m c → IsDone finished m c }
-    ensures at { IsAt shelf.now.table_id shelf.now.key.users chair.new.table_id row }
+    ensures at { IsAt table.now.table_id table.now.key.users token.new.table_id row }
     ensures idle { (b : ℕ) (q : StoredQueued) →
-        chair.old.me ≡ (Holds b row q, (row, None) ∷ []) → chair.new.me ≡ (Idle b, []) }
+        token.old.me ≡ (Holds b row q, (row, None) ∷ []) → token.new.me ≡ (Idle b, []) }
 {
-    drop(shelf.exchange(chair, row, Some(Place::Finished(finished))));
-    shelf.swap::<GivingDone>(chair, row, DONE);
-    shelf.wake_one(row);
+    drop(table.exchange(token, row, Some(Place::Finished(finished))));
+    table.swap::<GivingDone>(token, row, DONE);
+    table.wake_one(row);
 }

@@ -8,8 +8,8 @@ use Rattle.cam6_handoff.proofs.Keeps.{backs}
 use Rattle.cam6_handoff.proofs.steps.back.Goals as goal
 
 pub swap-requires : goal.swap-requires
-swap-requires c = let users : ℕ = c.args.shelf.now.key.users in let slots : ℕ =
-    c.args.shelf.now.table_id.slots in let u : ℕ = c.args.row in let id : ℕ =
+swap-requires c = let users : ℕ = c.args.table.now.key.users in let slots : ℕ =
+    c.args.table.now.table_id.slots in let u : ℕ = c.args.row in let id : ℕ =
     c.exchange.new.seat.id in
     let x = c.args.queued in let b = c.requires.holds.0 in let q = c.requires.holds.1 in let was =
     c.requires.holds.2 in

@@ -9,9 +9,9 @@ use Rattle.cam6_handoff.proofs.Keeps.{collects}
 use Rattle.cam6_handoff.proofs.steps.collect.Goals as goal
 
 pub compare_exchange-requires : goal.compare_exchange-requires
-compare_exchange-requires c = let users : ℕ = c.args.shelf.now.key.users in let slots : ℕ =
-    c.args.shelf.now.table_id.slots in let u : ℕ = c.args.row in let id : ℕ =
-    c.args.chair.now.id in (
+compare_exchange-requires c = let users : ℕ = c.args.table.now.key.users in let slots : ℕ =
+    c.args.table.now.table_id.slots in let u : ℕ = c.args.row in let id : ℕ =
+    c.args.token.now.id in (
       search rules,
       search rules,
       subst (λ (m : Seated). Allows (Rule users) slots id m u (λ x. either (eqb x 2) 0 x)

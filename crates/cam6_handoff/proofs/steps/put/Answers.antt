@@ -8,8 +8,8 @@ use Rattle.cam6_handoff.proofs.Keeps.{puts}
 use Rattle.cam6_handoff.proofs.steps.put.Goals as goal
 
 pub swap-found-requires : goal.swap-found-requires
-swap-found-requires c = let users : ℕ = c.args.shelf.now.key.users in let slots : ℕ =
-    c.args.shelf.now.table_id.slots in let u : ℕ = c.args.row in let id : ℕ =
+swap-found-requires c = let users : ℕ = c.args.table.now.key.users in let slots : ℕ =
+    c.args.table.now.table_id.slots in let u : ℕ = c.args.row in let id : ℕ =
     c.exchange.new.seat.id in
     let is = c.exchange.ensures.3 ∙
     ap (λ (m : Seated). (m.0, (u, Some (Queued c.args.queued)) ∷ rest m.1)) c.requires.rests in (

@@ -7,9 +7,9 @@ use Rattle.cam6_handoff.proofs.Keeps.{sits}
 use Rattle.cam6_handoff.proofs.steps.sit.Goals as goal
 
 pub load-requires : goal.load-requires
-load-requires c = let users : ℕ = c.args.shelf.now.key.users in let slots : ℕ =
-    c.args.shelf.now.table_id.slots in let u : ℕ = c.args.row in let id : ℕ =
-    c.args.chair.now.id in (
+load-requires c = let users : ℕ = c.args.table.now.key.users in let slots : ℕ =
+    c.args.table.now.table_id.slots in let u : ℕ = c.args.row in let id : ℕ =
+    c.args.token.now.id in (
       search rules,
       search rules,
       subst (λ (m : Seated). Allows (Rule users) slots id m u (λ x. x)

@@ -9,9 +9,9 @@ use Rattle.cam6_handoff.proofs.Keeps.{took}
 use Rattle.cam6_handoff.proofs.steps.take.Goals as goal
 
 pub compare_exchange-requires : goal.compare_exchange-requires
-compare_exchange-requires c = let users : ℕ = c.args.shelf.now.key.users in let slots : ℕ =
-    c.args.shelf.now.table_id.slots in let u : ℕ = c.args.row in let id : ℕ =
-    c.args.chair.now.id in let n : ℕ = 3 + c.args.board in (
+compare_exchange-requires c = let users : ℕ = c.args.table.now.key.users in let slots : ℕ =
+    c.args.table.now.table_id.slots in let u : ℕ = c.args.row in let id : ℕ =
+    c.args.token.now.id in let n : ℕ = 3 + c.args.board in (
       search rules,
       search rules,
       subst (λ (m : Seated). Allows (Rule users) slots id m u (λ x. either (eqb x 1) n x)

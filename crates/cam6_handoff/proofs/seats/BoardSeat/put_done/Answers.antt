@@ -1,8 +1,8 @@
 use Rattle.std.proofs.Common.{rules, ℕ, Option, sym, ap, ◌∙◌, subst}
 use Rattle.cam6_handoff.specs.Rule.{Seated}
 use Rattle.cam6_handoff.specs.Holding.{BoardStance, emptied}
-use Rattle.cam6_handoff.specs.Internal.Chairs.{board_stance, TakenChair}
-use Rattle.cam6_handoff.proofs.Chairs.{held, accepts_done_at}
+use Rattle.cam6_handoff.specs.Internal.Tokens.{board_stance, TakenToken}
+use Rattle.cam6_handoff.proofs.Tokens.{held, accepts_done_at}
 use Rattle.cam6_handoff.proofs.seats.BoardSeat.put_done.Goals as goal
 
 pub done-requires-clause-at : goal.done-requires-clause-at
@@ -30,8 +30,8 @@ invariant_of-self c =
       i.1,
       i.2,
       i.3,
-      subst (λ (t : Option ℕ). TakenChair c.self.inside.users c.self.inside.board t
-          c.done.new.chair.me) (sym c.take.ensures.after) e,
+      subst (λ (t : Option ℕ). TakenToken c.self.inside.users c.self.inside.board t
+          c.done.new.token.me) (sym c.take.ensures.after) e,
       i.5,
     )
 

@@ -1,7 +1,7 @@
 use Rattle.std.proofs.Common.{rules, ◌≡◌, ◌∙◌, ◌+◌, ◌-◌, ℕ, ap, arith}
 use Rattle.cam6_handoff.specs.Rule.{Seated}
 use Rattle.cam6_handoff.specs.Holding.{holding, BoardStance}
-use Rattle.cam6_handoff.specs.Internal.Chairs.{board_stance}
+use Rattle.cam6_handoff.specs.Internal.Tokens.{board_stance}
 use Rattle.cam6_handoff.proofs.seats.BoardSeat.try_take.Goals as goal
 
 pub invariant_of-self-2 : goal.invariant_of-self-2

@@ -24,9 +24,9 @@ stance_of u (Some m) v = standing (u + 1) m
 stance_of u None v = waits_at v
 
 -- a desk with its machine has its slot, with nothing in it; one that waits has none
-abbrev pub DeskChair : ℕ → Option StoredMachine → Seated → Type 0
-DeskChair u (Some m) me = me ≡ (Rests u, (u, None) ∷ [])
-DeskChair u None me = (asked : StoredQueued) × (me ≡ (Waits u asked, []))
+abbrev pub DeskToken : ℕ → Option StoredMachine → Seated → Type 0
+DeskToken u (Some m) me = me ≡ (Rests u, (u, None) ∷ [])
+DeskToken u None me = (asked : StoredQueued) × (me ≡ (Waits u asked, []))
 
 abbrev pub holds_at : View → Holding
 holds_at (First desks boards) = nothing
@@ -40,14 +40,14 @@ abbrev pub board_stance : ℕ → ℕ → List (List ℕ) → View → BoardStan
 board_stance b n tables v =
     record { number = b; users = n; holds = holds_at v; tables = tables }
 
-abbrev pub TakenChair : ℕ → ℕ → Option ℕ → Seated → Type 0
-TakenChair n b None me = me ≡ (Idle b, [])
-TakenChair n b (Some u) me =
+abbrev pub TakenToken : ℕ → ℕ → Option ℕ → Seated → Type 0
+TakenToken n b None me = me ≡ (Idle b, [])
+TakenToken n b (Some u) me =
     (u < n) × ((q : StoredQueued) × (me ≡ (Holds b u q, (u, None) ∷ [])))
 
 -- a board's seat is of the table, which has so many users, `max_users` at most; it has taken what
 -- it says
-abbrev pub BoardChair : TableId → ℕ → ℕ → TableId → ℕ → Option ℕ → Seated → Type 0
-BoardChair table users n own b taken me =
+abbrev pub BoardToken : TableId → ℕ → ℕ → TableId → ℕ → Option ℕ → Seated → Type 0
+BoardToken table users n own b taken me =
     (own ≡ table) × (n ≡ users) × (table.words ≡ users) × (table.slots ≡ users)
-    × TakenChair n b taken me × (n ≤ max_users)
+    × TakenToken n b taken me × (n ≤ max_users)

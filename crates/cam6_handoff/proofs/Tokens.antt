@@ -9,12 +9,12 @@ use Rattle.cam6_handoff.specs.declared.rule.View.TheVariants.{Holds}
 use Rattle.cam6_handoff.specs.Rule.{Seated}
 use Rattle.cam6_handoff.specs.Holding.{Holding}
 use Rattle.cam6_handoff.specs.Seats.{Accepts, AcceptsDone}
-use Rattle.cam6_handoff.specs.Internal.Chairs.{holds_at, TakenChair}
+use Rattle.cam6_handoff.specs.Internal.Tokens.{holds_at, TakenToken}
 
-pub held : (n b u : ℕ) (t r : Option ℕ) (me : Seated) → TakenChair n b t me → r ≡ t → r ≡ Some u →
+pub held : (n b u : ℕ) (t r : Option ℕ) (me : Seated) → TakenToken n b t me → r ≡ t → r ≡ Some u →
     (u < n) × ((q : StoredQueued) × (me ≡ (Holds b u q, (u, None) ∷ [])))
-held n b u t r me chair is some =
-    subst (λ (z : Option ℕ). TakenChair n b z me) (sym is ∙ some) chair
+held n b u t r me token is some =
+    subst (λ (z : Option ℕ). TakenToken n b z me) (sym is ∙ some) token
 
 -- what the seat accepts, at the view that it has
 pub accepts_at : (u : ℕ) (h : Holding) (x : StoredQueued) (me : Seated) → h ≡ holds_at me.0 →
