@@ -3,7 +3,7 @@
 use crate::states::{Handle, ServerState};
 use crate::visitors::Visitors;
 use crate::visits::receive;
-use cam6_web_door::{Door, Hosts, Names};
+use cam6_web_router::{Hosts, Names, Router};
 use cam6_web_words::{Fault, Options};
 use std::alloc::AllocError;
 use std::io::Error;
@@ -45,7 +45,7 @@ fn open<R: Handle>(rt: R, options: Options) -> Result<Arc<ServerState<R>>, Alloc
     let hosts = Hosts::new(alloc, options.hosts.len())?;
     let server = ServerState {
         rt,
-        door: Door { names, hosts },
+        router: Router { names, hosts },
         hosts: options.hosts,
         limit: options.limit,
         visitors: Mutex::new(Visitors::new(options.connections)),

@@ -2,7 +2,7 @@
 
 use crate::visitors::{Standing, Visitors};
 use cam6_planes::Side;
-use cam6_web_door::Door;
+use cam6_web_router::Router;
 use std::net::SocketAddr;
 use std::random::RandomSource;
 use std::sync::{Condvar, Mutex, Wait};
@@ -18,7 +18,7 @@ impl<R: Threads + Wait + Clock + RandomSource + AllocGlobal + Copy + Drop> Handl
 #[derive(Drop)]
 pub struct ServerState<R: Handle> {
     pub rt: R,
-    pub door: Door,
+    pub router: Router,
     pub hosts: Vec<SocketAddr>,
     pub limit: Side,
     pub visitors: Mutex<Visitors>,

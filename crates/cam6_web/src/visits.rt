@@ -3,8 +3,8 @@
 use crate::links::Link;
 use crate::states::{Handle, ServerState};
 use crate::visitors::Standing;
-use cam6_web_door::{Opening, Site, Way, greet};
 use cam6_web_machine::PrivateMachine;
+use cam6_web_router::{Opening, Site, Way, greet};
 use cam6_web_talk::{Away, HostLines, talk, turn_away};
 use std::io;
 use std::io::{BufReader, ErrorKind};
@@ -95,7 +95,7 @@ fn greeted<R: Handle>(
     has_room: bool,
 ) -> io::Result<Option<Opening>> {
     let alloc = server.rt.alloc();
-    let mut site = Site::new(alloc, &server.door, has_room);
+    let mut site = Site::new(alloc, &server.router, has_room);
     greet(&server.rt, alloc, &mut site, &mut &*link, &mut &*link)
 }
 

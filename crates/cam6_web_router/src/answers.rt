@@ -1,0 +1,140 @@
+//! Which answer a request gets.
+ghost use Rattle.std.specs.Prelude.{◌≡◌, ◌↔◌, IfNone, IfSome, IsTrue, option_map};
+ghost use Rattle.http_header.specs.Token.{lowercase};
+ghost use Rattle.cam6_web_router.specs.Answers.{Accepts, AsksForWebSocket, IsAnswerTo, IsAsked};
+ghost use Rattle.cam6_web_router.specs.Answers.{IsNoHandshake, IsShow, path_of, said};
+ghost use Rattle.cam6_web_router.specs.Ways.{LeadsTo};
+
+use crate::routers::Router;
+use crate::ways::Way;
+use bytes::Bytes;
+use cam6_web_page::{File, file_at};
+use http::Request;
+use websocket::handshake::server::accept_key;
+
+/// What a request is answered.
+#[derive(Clone, Copy, Debug, PartialEq, Eq)]
+pub enum Answer {
+    /// 421: the server isn't asked by one of its names.
+    Misdirected,
+    /// 405: the method is neither GET nor HEAD.
+    WrongMethod,
+    /// 200: a file of the page.
+    Shows(File),
+    /// 200: how many hosts there are.
+    Counts,
+    /// 404: nothing is at the path.
+    NotFound,
+    /// 403: a socket is asked for, but not by a page of this server.
+    Foreign,
+    /// 400: a socket is asked for, but not by a handshake, or the key of the handshake is wrong.
+    Malformed,
+    /// 503: a socket is asked for, and there is no room for one.
+    Full,
+    /// 101: a socket is opened. It is accepted by this key, and leads this way.
+    Opens([u8; 28], Way),
+}
+
+/// The answer to a request. `has_room` says whether one more socket may be opened.
+pub fn answer_to(router: &Router, has_room: bool, request: &Request<Bytes>) -> Answer
+    ensures { IsAnswerTo router.now has_room request.now result }
+{
+    let Some(host) = said(request, "host") else {
+        return Answer::Misdirected;
+    };
+    if !router.names.is_name(host) {
+        return Answer::Misdirected;
+    }
+    if !is_show(request) {
+        return Answer::WrongMethod;
+    }
+    let path = request.uri().path();
+    if let Some(file) = file_at(path) {
+        return Answer::Shows(file);
+    }
+    if path == "/hosts" {
+        return Answer::Counts;
+    }
+    match router.hosts.way_at(path) {
+        Some(way) => answer_to_socket(router, has_room, request, host, way),
+        None => Answer::NotFound,
+    }
+}
+
+/// The answer if a socket is asked for.
+fn answer_to_socket(
+    router: &Router,
+    has_room: bool,
+    request: &Request<Bytes>,
+    host: &[u8],
+    way: Way,
+) -> Answer
+    requires asked { IsAsked router.now.names request.now host.now }
+    requires shows { IsShow request.now }
+    requires leads { LeadsTo router.now.hosts (path_of request.now) way }
+    ensures { IsAnswerTo router.now has_room request.now result }
+{
+    let Some(origin) = said(request, "origin") else {
+        return Answer::Foreign;
+    };
+    if !router.names.is_origin(origin, host) {
+        return Answer::Foreign;
+    }
+    let Some(accept) = accepted(request) else {
+        return Answer::Malformed;
+    };
+    if has_room {
+        Answer::Opens(accept, way)
+    } else {
+        Answer::Full
+    }
+}
+
+/// The key that accepts the handshake of a request, or none if it is no handshake or its key is
+/// wrong.
+fn accepted(request: &Request<Bytes>) -> Option<[u8; 28]>
+    ensures some { IfSome result (λ accept. Accepts request.now accept) }
+    ensures none { IfNone result (IsNoHandshake request.now) }
+{
+    if request.method().as_str() != "GET" || !asks_for_websocket(request) {
+        return None;
+    }
+    let Some(key) = said(request, "sec-websocket-key") else {
+        return None;
+    };
+    match accept_key(key) {
+        Ok(accept) => Some(accept),
+        Err(_) => None,
+    }
+}
+
+/// Whether the connection is to go on as a socket, in the version that all browsers have.
+fn asks_for_websocket(request: &Request<Bytes>) -> bool
+    ensures { IsTrue result ↔ AsksForWebSocket request.now }
+{
+    let (Some(upgrade), Some(version)) = (
+        said(request, "upgrade"),
+        said(request, "sec-websocket-version"),
+    ) else {
+        return false;
+    };
+    upgrade.eq_ignore_ascii_case(b"websocket") && version == b"13".as_slice()
+}
+
+/// What the first field of this name says, or `None` if there is no such field.
+fn said<'a>(request: &'a Request<Bytes>, name: &str) -> Option<&'a [u8]>
+    ensures { option_map (λ bytes. bytes.now) result ≡ said request.now (lowercase name.now) }
+{
+    match request.headers().get(name) {
+        Some(value) => Some(value.as_bytes()),
+        None => None,
+    }
+}
+
+/// Whether the method is GET or HEAD, so that the request only asks to be shown something.
+fn is_show(request: &Request<Bytes>) -> bool
+    ensures { IsTrue result ↔ IsShow request.now }
+{
+    let method = request.method().as_str();
+    method == "GET" || method == "HEAD"
+}

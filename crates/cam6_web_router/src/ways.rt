@@ -1,0 +1,98 @@
+//! Where a socket leads, by its path.
+ghost use Rattle.std.specs.Prelude.{◌≡◌, ◌↔◌, IfNone, IfOk, IfSome, IsTrue, decimal};
+ghost use Rattle.cam6_web_router.specs.Ways.{IsNoWay, LeadsTo, path_to_socket};
+
+use bytes::Bytes;
+use std::alloc::{AllocError, Global};
+use std::marker::Model;
+
+/// Where the lines of a socket go.
+#[derive(Clone, Copy, Debug, PartialEq, Eq)]
+pub enum Way {
+    /// To a machine of the socket's own.
+    Own,
+    /// To the host of this number, from 1 on.
+    Host(usize),
+}
+
+/// How many hosts there are. Each has a path of its own.
+#[derive(Drop)]
+pub struct Hosts {
+    paths: Vec<Bytes>,
+    told: Bytes,
+}
+
+impl Model for Hosts {
+    ghost use Rattle.std.specs.Prelude.{◌≡◌, ℕ, decimal, length};
+    ghost use Rattle.std.specs.Coded.{coded_ℕ};
+
+    ghost Value = { ℕ };
+
+    ghost coded = { coded_ℕ };
+
+    ghost use Rattle.cam6_web_router.specs.Ways.{ArePaths};
+
+    ghost view = { λ h. length h.paths.items };
+
+    ghost invariant = { λ h. ArePaths h.paths.items × (h.told ≡ decimal (length h.paths.items)) };
+}
+
+impl Hosts {
+    /// So many hosts.
+    pub fn new(alloc: Global, count: usize) -> Result<Hosts, AllocError>
+        ensures { IfOk result (λ hosts. hosts ≡ count) }
+    {
+        let mut paths = Vec::new(alloc);
+        while paths.len() < count {
+            let number = paths.len() + 1;
+            let path = format!(in alloc; "/ws/{number}")?;
+            paths.push(Bytes::copy_from_slice(alloc, path.as_bytes())?)?;
+        }
+        let told = format!(in alloc; "{count}")?;
+        Ok(Hosts {
+            paths,
+            told: Bytes::copy_from_slice(alloc, told.as_bytes())?,
+        })
+    }
+
+    /// How many hosts there are, in decimal.
+    pub fn told(&self) -> &[u8]
+        ensures { result.now ≡ decimal self.now }
+    {
+        self.told.as_slice()
+    }
+
+    /// Where the socket at a path leads. `/ws` leads to the first host or, if there is none, to a
+    /// machine of its own. `/ws/K` leads to host K, counted from 1. Returns `None` for any other
+    /// path.
+    pub fn way_at(&self, path: &str) -> Option<Way>
+        ensures found { IfSome result (λ way. LeadsTo self.now path.now way) }
+        ensures none { IfNone result (IsNoWay self.now path.now) }
+    {
+        if is_text(path.as_bytes(), "/ws") {
+            return Some(first_way(self.paths.len()));
+        }
+        let mut index = 0;
+        while index < self.paths.len() {
+            if is_text(self.paths[index].as_slice(), path) {
+                return Some(Way::Host(index + 1));
+            }
+            index += 1;
+        }
+        None
+    }
+}
+
+/// Whether bytes are those of a text.
+fn is_text(bytes: &[u8], text: &str) -> bool
+    ensures { IsTrue result ↔ (bytes.now ≡ text.now) }
+{
+    bytes == text.as_bytes()
+}
+
+/// Where the socket at `/ws` leads.
+fn first_way(hosts: usize) -> Way
+    ensures { LeadsTo hosts path_to_socket result }
+{
+    if hosts == 0 { Way::Own } else { Way::Host(1) }
+}
