@@ -45,7 +45,7 @@ fn attend<R: Handle>(server: &ServerState<R>, stream: TcpStream) {
 /// Serves a connection. Returns what the client had at the end, or fails before anything is read.
 fn visit<'a, R: Handle>(server: &'a ServerState<R>, stream: &'a TcpStream) -> io::Result<Standing> {
     let link = Link::new(server.host.rt.alloc(), server, stream)?;
-    let visit = talk(&server.host, &link)?;
+    let visit = serve_connection(&server.host, &link)?;
     if leaves_lines(visit) {
         // The connection is closed next, so a failure here changes nothing.
         let _ = link.part();
@@ -56,7 +56,7 @@ fn visit<'a, R: Handle>(server: &'a ServerState<R>, stream: &'a TcpStream) -> io
 }
 
 /// Answers the lines of a connection, by `converse`. Fails if there is no memory to read any.
-fn talk<R: Handle>(host: &HostState<R>, link: &Link<'_, R>) -> io::Result<Visit> {
+fn serve_connection<R: Handle>(host: &HostState<R>, link: &Link<'_, R>) -> io::Result<Visit> {
     let mut reader = BufReader::new(host.rt.alloc(), &*link)?;
     Ok(converse(host, &mut reader, &mut &*link, link))
 }

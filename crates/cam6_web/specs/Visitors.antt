@@ -1,7 +1,7 @@
 -- The connections of a server, by what they have.
 use Rattle.std.specs.Prelude.{◌≡◌, ◌<◌, ◌+◌, ◌-◌, ◌&&◌, ◌==◌, ℕ, Bool, MatchBool}
 use Rattle.cam6_web.specs.declared.visitors.Standing.{Standing}
-use Rattle.cam6_web.specs.declared.visitors.Standing.TheVariants.{Greeted, Talking}
+use Rattle.cam6_web.specs.declared.visitors.Standing.TheVariants.{Greeted, Bridged}
 
 -- the most connections that may wait for an answer
 abbrev pub most_greeted : ℕ
@@ -11,10 +11,10 @@ most_greeted = 64
 pub record Visiting : Type 0 where
   pub room : ℕ
   pub greeted : ℕ
-  pub talking : ℕ
+  pub bridged : ℕ
 
 abbrev pub nobody : ℕ → Visiting
-nobody room = record { room = room; greeted = 0; talking = 0 }
+nobody room = record { room = room; greeted = 0; bridged = 0 }
 
 -- one more connection waits, or as many do as may
 abbrev pub Enters : Visiting → Bool → Visiting → Type 0
@@ -27,15 +27,15 @@ Enters old entered new =
 abbrev pub Opens : Visiting → Bool → Visiting → Type 0
 Opens old opened new =
     MatchBool opened
-    ((old.talking < old.room)
-    × (new ≡ record old { greeted = old.greeted - 1; talking = old.talking + 1 }))
-    ((old.talking ≡ old.room) × (new ≡ old))
+    ((old.bridged < old.room)
+    × (new ≡ record old { greeted = old.greeted - 1; bridged = old.bridged + 1 }))
+    ((old.bridged ≡ old.room) × (new ≡ old))
 
 -- a connection that had this goes
 abbrev pub Leaves : Standing → Visiting → Visiting → Type 0
 Leaves Greeted old new = new ≡ record old { greeted = old.greeted - 1 }
-Leaves Talking old new = new ≡ record old { talking = old.talking - 1 }
+Leaves Bridged old new = new ≡ record old { bridged = old.bridged - 1 }
 
 -- there is no connection
 abbrev pub are_none : Visiting → Bool
-are_none visiting = (visiting.greeted == 0) && (visiting.talking == 0)
+are_none visiting = (visiting.greeted == 0) && (visiting.bridged == 0)

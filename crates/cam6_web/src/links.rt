@@ -2,7 +2,7 @@
 
 ghost use Rattle.std.specs.Prelude.{◌≤◌, IfOk, length};
 
-use cam6_web_talk::{Pace, Paced};
+use cam6_web_bridge::{Pace, Paced};
 use std::cell::Cell;
 use std::io;
 use std::io::{Error, ErrorKind, Read, Write};

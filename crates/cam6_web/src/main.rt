@@ -3,7 +3,7 @@
 //!
 //! Contract: `closed` ends with the exit statuses of `cam6_web_words`, which says what the arguments
 //! ask for, and `refuse` of `cam6_arguments` ends for arguments that ask for nothing. `cam6_web_router`
-//! says what each request is answered, and `cam6_web_talk` what is carried between a page and its
+//! says what each request is answered, and `cam6_web_bridge` what is carried between a page and its
 //! host. The host is a machine in this process (`cam6_web_machine`) or is at the other end of a
 //! connection. No more connections are open than there is room for (`specs/Visitors.antt`, an
 //! invariant of the counts under a lock).
@@ -12,7 +12,7 @@
 //! `links` bounds the time of each call: ten seconds for a request, a minute for a message that is
 //! sent, half a minute for silence.
 //!
-//! Stands on: `cam6_arguments`, `cam6_web_words`, `cam6_web_router`, `cam6_web_talk`,
+//! Stands on: `cam6_arguments`, `cam6_web_words`, `cam6_web_router`, `cam6_web_bridge`,
 //! `cam6_web_machine`; `cam6_planes`, for what it hands on.
 //!
 //! Read next: `visitors`, the counts of connections; `states`, what the threads share; `visits`, a

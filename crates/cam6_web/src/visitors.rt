@@ -13,7 +13,7 @@ pub enum Standing {
     /// No answer yet, or one that is no socket.
     Greeted,
     /// A socket.
-    Talking,
+    Bridged,
 }
 
 /// Counts of connections. There is room for `room` sockets.
@@ -21,7 +21,7 @@ pub enum Standing {
 pub struct Visitors {
     room: usize,
     greeted: usize,
-    talking: usize,
+    bridged: usize,
 }
 
 impl Model for Visitors {
@@ -30,10 +30,10 @@ impl Model for Visitors {
 
     ghost Value = { Visiting };
 
-    ghost view = { λ v. record { room = v.room; greeted = v.greeted; talking = v.talking } };
+    ghost view = { λ v. record { room = v.room; greeted = v.greeted; bridged = v.bridged } };
 
     // No more connections are there than may be.
-    ghost invariant = { λ v. (v.greeted ≤ most_greeted) × (v.talking ≤ v.room) };
+    ghost invariant = { λ v. (v.greeted ≤ most_greeted) × (v.bridged ≤ v.room) };
 }
 
 impl Visitors {
@@ -44,7 +44,7 @@ impl Visitors {
         Visitors {
             room,
             greeted: 0,
-            talking: 0,
+            bridged: 0,
         }
     }
 
@@ -63,11 +63,11 @@ impl Visitors {
     pub fn open(&mut self) -> bool
         ensures { Opens self.old result self.new }
     {
-        if self.talking == self.room {
+        if self.bridged == self.room {
             return false;
         }
         self.greeted = self.greeted.saturating_sub(1);
-        self.talking += 1;
+        self.bridged += 1;
         true
     }
 
@@ -77,7 +77,7 @@ impl Visitors {
     {
         match standing {
             Standing::Greeted => self.greeted = self.greeted.saturating_sub(1),
-            Standing::Talking => self.talking = self.talking.saturating_sub(1),
+            Standing::Bridged => self.bridged = self.bridged.saturating_sub(1),
         }
     }
 
@@ -85,6 +85,6 @@ impl Visitors {
     pub fn are_none(&self) -> bool
         ensures { result ≡ are_none self.now }
     {
-        self.greeted == 0 && self.talking == 0
+        self.greeted == 0 && self.bridged == 0
     }
 }

@@ -3,9 +3,9 @@
 use crate::links::Link;
 use crate::states::{Handle, ServerState};
 use crate::visitors::Standing;
+use cam6_web_bridge::{Away, HostLines, bridge, turn_away};
 use cam6_web_machine::PrivateMachine;
 use cam6_web_router::{Opening, Site, Way, greet};
-use cam6_web_talk::{Away, HostLines, talk, turn_away};
 use std::io;
 use std::io::{BufReader, ErrorKind};
 use std::net::{Net, TcpListener, TcpStream};
@@ -74,11 +74,11 @@ fn visit<'a, R: Handle + Net<Listener = TcpListener, Stream = TcpStream>>(
         return Standing::Greeted;
     };
     let standing = if link.asks_for_socket() && server.open() {
-        Standing::Talking
+        Standing::Bridged
     } else {
         Standing::Greeted
     };
-    match greeted(server, &link, standing == Standing::Talking) {
+    match greeted(server, &link, standing == Standing::Bridged) {
         Ok(Some(opening)) => converse(server, &link, opening),
         Ok(None) => {}
         Err(_) => return standing,
@@ -107,18 +107,18 @@ fn converse<R: Handle + Net<Listener = TcpListener, Stream = TcpStream>>(
 ) {
     let Opening { way, unread } = opening;
     match way {
-        Way::Own => talk_to_machine(server, link, unread),
-        Way::Host(number) => talk_to_host(server, link, unread, number),
+        Way::Own => bridge_to_machine(server, link, unread),
+        Way::Host(number) => bridge_to_host(server, link, unread, number),
     }
 }
 
 /// Carries the messages of a page to a machine of its own. If there is no memory for one, turns the
 /// page away.
-fn talk_to_machine<R: Handle>(server: &ServerState<R>, link: &Link<'_, R>, unread: Vec<u8>) {
+fn bridge_to_machine<R: Handle>(server: &ServerState<R>, link: &Link<'_, R>, unread: Vec<u8>) {
     let alloc = server.rt.alloc();
     match PrivateMachine::new(alloc, server.limit) {
         Ok(mut machine) => {
-            talk(alloc, link, unread, &mut machine);
+            bridge(alloc, link, unread, &mut machine);
         }
         Err(_) => turn_away(alloc, link, unread, Away::NoMemory),
     }
@@ -126,7 +126,7 @@ fn talk_to_machine<R: Handle>(server: &ServerState<R>, link: &Link<'_, R>, unrea
 
 /// Carries the messages of a page to the host of this number. If it can't be reached, turns the
 /// page away.
-fn talk_to_host<R: Handle + Net<Listener = TcpListener, Stream = TcpStream>>(
+fn bridge_to_host<R: Handle + Net<Listener = TcpListener, Stream = TcpStream>>(
     server: &ServerState<R>,
     link: &Link<'_, R>,
     unread: Vec<u8>,
@@ -140,7 +140,7 @@ fn talk_to_host<R: Handle + Net<Listener = TcpListener, Stream = TcpStream>>(
         return turn_away(alloc, link, unread, Away::NoMemory);
     };
     let mut host = HostLines::new(alloc, reader, &stream);
-    talk(alloc, &link.beside(&stream), unread, &mut host);
+    bridge(alloc, &link.beside(&stream), unread, &mut host);
 }
 
 /// Connects to the host of this number, counted from 1, within ten seconds.

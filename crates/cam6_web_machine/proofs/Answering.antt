@@ -6,9 +6,9 @@ use Rattle.cam6_model.specs.Alone.{after, reply}
 use Rattle.cam6_model.specs.Machine.{Machine}
 use Rattle.cam6_session.proofs.Taking.{command_takes_memory}
 use Rattle.cam6_web_machine.specs.Answers.{Fails, IsUntold}
-use Rattle.cam6_web_talk.specs.declared.hosts.Answer.{Answer}
-use Rattle.cam6_web_talk.specs.declared.hosts.Silence.{Silence}
-use Rattle.cam6_web_talk.specs.declared.hosts.Silence.TheVariants.{NoMemory}
+use Rattle.cam6_web_bridge.specs.declared.hosts.Answer.{Answer}
+use Rattle.cam6_web_bridge.specs.declared.hosts.Silence.{Silence}
+use Rattle.cam6_web_bridge.specs.declared.hosts.Silence.TheVariants.{NoMemory}
 use Rattle.cam6_wire.specs.Commands.{command}
 
 module _ (m n : Machine) (line : List ℕ) (c : Command) (said : command line ≡ Ok c) where

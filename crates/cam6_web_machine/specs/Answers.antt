@@ -6,9 +6,9 @@ use Rattle.cam6_model.specs.Alone.{after, reply}
 use Rattle.cam6_model.specs.Machine.{Machine}
 use Rattle.cam6_session.specs.Answers.{after_line, text_to}
 use Rattle.cam6_session.specs.Responding.{TakesMemory}
-use Rattle.cam6_web_talk.specs.Hosts.{HostWays}
-use Rattle.cam6_web_talk.specs.declared.hosts.Silence.{Silence}
-use Rattle.cam6_web_talk.specs.declared.hosts.Silence.TheVariants.{NoMemory}
+use Rattle.cam6_web_bridge.specs.Hosts.{HostWays}
+use Rattle.cam6_web_bridge.specs.declared.hosts.Silence.{Silence}
+use Rattle.cam6_web_bridge.specs.declared.hosts.Silence.TheVariants.{NoMemory}
 use Rattle.cam6_wire.specs.Commands.{command}
 use Rattle.cam6_wire.specs.Replies.{is_fixed}
 

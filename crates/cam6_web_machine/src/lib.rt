@@ -7,7 +7,7 @@
 //! was, or the command was done and its reply is lost. A reply that only says what was done is never
 //! lost, since its text is always the same.
 //!
-//! Stands on: `cam6_web_talk`, for what a host is; `cam6_wire`, lines and replies; `cam6_machine`,
+//! Stands on: `cam6_web_bridge`, for what a host is; `cam6_wire`, lines and replies; `cam6_machine`,
 //! `cam6_commands` and `cam6_planes`; `cam6_session` and `cam6_model`, for the definitions.
 //!
 //! Read next: `machines`, which is all of it.

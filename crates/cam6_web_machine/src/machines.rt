@@ -6,12 +6,12 @@ ghost use Rattle.cam6_model.specs.Machine.{blank};
 ghost use Rattle.cam6_wire.specs.Commands.{command as what_is_said};
 ghost use Rattle.cam6_wire.specs.Replies.{reply_bytes};
 ghost use Rattle.cam6_web_machine.specs.Answers.{Fails, IsUntold};
-ghost use Rattle.cam6_web_talk.specs.Hosts.{answer_bytes};
+ghost use Rattle.cam6_web_bridge.specs.Hosts.{answer_bytes};
 
 use cam6_commands::{Command, Reply};
 use cam6_machine::Machine;
 use cam6_planes::{NoMemory, Side};
-use cam6_web_talk::{Answer, Host, Silence};
+use cam6_web_bridge::{Answer, Host, Silence};
 use cam6_wire::{LineFault, fault_text, fixed_text, read_command, reply_text};
 use std::alloc::Global;
 

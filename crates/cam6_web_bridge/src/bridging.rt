@@ -1,0 +1,40 @@
+//! A bridge from the handshake on.
+ghost use Rattle.cam6_web_bridge.specs.Bridging.{BridgesOn};
+
+use crate::carrying::{End, carry};
+use crate::hosts::Host;
+use crate::partings::{Away, farewell, farewell_away};
+use crate::sockets::{Paced, SocketPage};
+use std::alloc::Global;
+use std::io::{Read, Write};
+
+/// Carries the messages of a page whose handshake is done to a host, and its answers back. Then tells
+/// the page of the end. `unread` was read after the handshake.
+pub fn bridge<S: Read + Write + Paced + Drop, H: Host>(
+    alloc: Global,
+    stream: S,
+    unread: Vec<u8>,
+    host: &mut H,
+) -> End
+    ensures { BridgesOn S.remaining S.contents H.answering stream unread.items result
+        (H.stands host.old) (H.stands host.new) }
+{
+    let mut page = SocketPage::new(alloc, stream, unread);
+    let end = carry(&mut page, host);
+    let (code, reason) = farewell(end);
+    // The page is gone if it can't be told.
+    let _ = page.part(code, reason);
+    end
+}
+
+/// Tells a page whose handshake is done why it is turned away.
+pub fn turn_away<S: Read + Write + Paced + Drop>(
+    alloc: Global,
+    stream: S,
+    unread: Vec<u8>,
+    why: Away,
+) {
+    let mut page = SocketPage::new(alloc, stream, unread);
+    let (code, reason) = farewell_away(why);
+    let _ = page.part(code, reason);
+}

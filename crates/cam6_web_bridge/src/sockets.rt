@@ -1,0 +1,229 @@
+//! A page on a WebSocket.
+ghost use Rattle.std.specs.Prelude.{◌≡◌, [], IfErr, OnOk, string_bytes};
+ghost use Rattle.tungstenite.specs.Content.{text as text_content};
+ghost use Rattle.tungstenite.specs.Socket.{Flushed, content_of};
+ghost use Rattle.cam6_web_bridge.specs.Sockets.{Hearing, IsNew, IsSendable, IsUnsent, Listens, Sends};
+ghost use Rattle.cam6_web_bridge.specs.Sockets.{meaning_of as what_is_meant};
+ghost use Rattle.cam6_web_bridge.specs.Sockets.{meaning_of_error as what_an_error_means};
+ghost use Rattle.cam6_web_bridge.specs.Sockets.{meaning_of_kind as what_a_kind_means};
+ghost use Rattle.cam6_web_bridge.specs.Sockets.{reason_unsent as reason_of};
+
+use crate::hosts::MESSAGE_LIMIT;
+use crate::pages::{Page, Said, Unheard, Unsent};
+use bytes::Bytes;
+use std::alloc::Global;
+use std::io::{ErrorKind, Read, Write};
+use tungstenite::{Error, MaskKeys, Message, NoMask, Role, Utf8Bytes, WebSocket, WebSocketConfig};
+use websocket::error::ProtocolError;
+
+/// How many bytes one read of the stream asks for.
+const READ_SIZE: usize = 16_384;
+
+/// What the next calls of a stream are for.
+#[derive(Clone, Copy, Debug, PartialEq, Eq)]
+pub enum Pace {
+    /// A message is awaited.
+    Listening,
+    /// A message is sent.
+    Sending,
+    /// The close of a socket is sent.
+    Parting,
+}
+
+/// A stream that bounds how long its calls may take, by what they are for.
+///
+/// A read fails with `WouldBlock` or `TimedOut` if nothing came in time, and with `HostUnreachable` if
+/// the host is gone meanwhile.
+pub trait Paced {
+    /// Says what the calls from here on are for. The time that they may take begins now.
+    fn pace(&self, pace: Pace);
+}
+
+/// A page on a WebSocket, whose handshake is done.
+#[derive(Drop)]
+pub struct SocketPage<S, K> {
+    pub(crate) socket: WebSocket<S, K>,
+}
+
+impl<S: Drop> SocketPage<S, NoMask> {
+    /// The page at the other end of a stream. `unread` was read after the handshake.
+    pub fn new(alloc: Global, stream: S, unread: Vec<u8>) -> SocketPage<S, NoMask>
+        ensures { IsNew stream unread.items result.socket }
+    {
+        let config = WebSocketConfig::default()
+            .max_message_size(Some(MESSAGE_LIMIT))
+            .max_frame_size(Some(MESSAGE_LIMIT))
+            .read_buffer_size(READ_SIZE);
+        SocketPage {
+            socket: WebSocket::from_partially_read(
+                alloc,
+                stream,
+                NoMask,
+                unread,
+                Role::Server,
+                Some(config),
+            ),
+        }
+    }
+}
+
+impl<S: Read + Write + Paced + Drop, K: MaskKeys + Drop> Page for SocketPage<S, K> {
+    ghost use Rattle.tungstenite.specs.Socket.{Socket};
+    ghost use Rattle.cam6_web_bridge.specs.Sockets.{by_socket};
+
+    ghost state = { Socket S };
+
+    ghost stands = { λ page. page.socket };
+
+    ghost speaking = { by_socket S.remaining S.contents };
+
+    /// Sends what still waits to be sent, and hears what the page says next.
+    fn hear(&mut self) -> Result<Said, Unheard> {
+        hear(&mut self.socket)
+    }
+
+    /// Sends the page a text.
+    fn send(&mut self, text: String) -> Result<(), Unsent> {
+        send_text(&mut self.socket, text)
+    }
+
+    /// Sends the page a text that is always the same, which is not copied.
+    fn send_fixed(&mut self, text: &'static str) -> Result<(), Unsent> {
+        send_message(
+            &mut self.socket,
+            Message::Text(Utf8Bytes::from_static(text)),
+        )
+    }
+
+    /// Sends the page a ping.
+    fn ping(&mut self) -> Result<(), Unsent> {
+        send_message(&mut self.socket, Message::Ping(Bytes::new()))
+    }
+}
+
+/// Sends what still waits to be sent, and hears what the page says next.
+fn hear<S: Read + Write + Paced + Drop, K: MaskKeys + Drop>(
+    socket: &mut WebSocket<S, K>,
+) -> Result<Said, Unheard>
+    ensures { Hearing S.remaining S.contents result socket.old socket.new }
+{
+    match send_rest(socket) {
+        Ok(()) => {
+            socket.get_ref().pace(Pace::Listening);
+            listen(socket)
+        }
+        Err(why) => Err(why),
+    }
+}
+
+/// Sends what still waits to be sent.
+fn send_rest<S: Read + Write + Paced + Drop, K: MaskKeys + Drop>(
+    socket: &mut WebSocket<S, K>,
+) -> Result<(), Unheard>
+    ensures sent { Flushed S.contents socket.old socket.new }
+    ensures empty { OnOk result (socket.new.output ≡ []) }
+    ensures lost { IfErr result (λ why. why ≡ Unheard.Lost) }
+{
+    socket.get_ref().pace(Pace::Sending);
+    match socket.flush() {
+        Ok(()) => Ok(()),
+        Err(_) => Err(Unheard::Lost),
+    }
+}
+
+/// Hears what the page says next.
+fn listen<S: Read + Write + Drop, K: MaskKeys + Drop>(
+    socket: &mut WebSocket<S, K>,
+) -> Result<Said, Unheard>
+    ensures { Listens S.remaining result socket.old socket.new }
+{
+    let read = socket.read();
+    meaning_of(read)
+}
+
+/// What is meant by what was read.
+fn meaning_of(read: Result<Message, Error>) -> Result<Said, Unheard>
+    ensures { result ≡ what_is_meant read }
+{
+    match read {
+        Ok(Message::Text(text)) => Ok(Said::Text(text)),
+        Ok(Message::Ping(_)) => Ok(Said::Life),
+        Ok(Message::Pong(_)) => Ok(Said::Life),
+        Ok(Message::Binary(_)) => Err(Unheard::NotText),
+        Ok(Message::Close(_)) => Err(Unheard::Closed),
+        Err(error) => meaning_of_error(&error),
+    }
+}
+
+/// What is meant by an error of a read.
+fn meaning_of_error(error: &Error) -> Result<Said, Unheard>
+    ensures { result ≡ what_an_error_means error.now }
+{
+    match error {
+        Error::Io(cause) => meaning_of_kind(cause.kind()),
+        Error::ConnectionClosed => Err(Unheard::Closed),
+        Error::Protocol(ProtocolError::ResetWithoutClosingHandshake) => Err(Unheard::Lost),
+        Error::Utf8 => Err(Unheard::NotUtf8),
+        Error::Capacity(_) => Err(Unheard::TooLong),
+        Error::OutOfMemory => Err(Unheard::NoMemory),
+        _ => Err(Unheard::Protocol),
+    }
+}
+
+/// The same for an error of the stream. It is silence if nothing came in time.
+fn meaning_of_kind(kind: ErrorKind) -> Result<Said, Unheard>
+    ensures { result ≡ what_a_kind_means kind }
+{
+    match kind {
+        ErrorKind::WouldBlock => Ok(Said::Nothing),
+        ErrorKind::TimedOut => Ok(Said::Nothing),
+        ErrorKind::HostUnreachable => Err(Unheard::HostGone),
+        _ => Err(Unheard::Lost),
+    }
+}
+
+/// Sends a text, which is not copied before.
+fn send_text<S: Read + Write + Paced + Drop, K: MaskKeys + Drop>(
+    socket: &mut WebSocket<S, K>,
+    text: String,
+) -> Result<(), Unsent>
+    ensures sent { OnOk result
+        (Sends S.contents (text_content (string_bytes text)) socket.old socket.new) }
+    ensures unsent { IfErr result (λ why.
+        IsUnsent S.contents (text_content (string_bytes text)) why socket.old socket.new) }
+{
+    let Ok(text) = Utf8Bytes::from_string(text) else {
+        return Err(Unsent::NoMemory);
+    };
+    send_message(socket, Message::Text(text))
+}
+
+/// Sends a message, unless the socket takes no more.
+fn send_message<S: Read + Write + Paced + Drop, K: MaskKeys + Drop>(
+    socket: &mut WebSocket<S, K>,
+    message: Message,
+) -> Result<(), Unsent>
+    requires { IsSendable (content_of message) }
+    ensures sent { OnOk result (Sends S.contents (content_of message) socket.old socket.new) }
+    ensures unsent { IfErr result (λ why.
+        IsUnsent S.contents (content_of message) why socket.old socket.new) }
+{
+    if !socket.can_write() {
+        return Err(Unsent::Closed);
+    }
+    socket.get_ref().pace(Pace::Sending);
+    match socket.send(message) {
+        Ok(()) => Ok(()),
+        Err(error) => Err(reason_unsent(&error)),
+    }
+}
+
+/// Why a message wasn't sent.
+fn reason_unsent(error: &Error) -> Unsent
+    ensures { result ≡ reason_of error.now }
+{
+    match error {
+        Error::OutOfMemory => Unsent::NoMemory,
+        _ => Unsent::Lost,
+    }
+}

@@ -1,6 +1,0 @@
-use Rattle.std.proofs.Common.{inl}
-use Rattle.cam6_web_talk.proofs.sockets.hear.Goals as goal
-
-pub returns-in-Ok : goal.returns-in-Ok
-returns-in-Ok g c =
-    inl (_, c.send_rest.ensures.sent, c.in-Ok.ensures.empty, c.listen.ensures)
