@@ -10,7 +10,7 @@ ghost use Rattle.cam6_band.specs.Next.{GoesOn, IsNext};
 
 use crate::images::{AtRest, Spare};
 use crate::new_rows::step_band;
-use crate::rooms::Room;
+use crate::scratch::Scratch;
 use crate::tables::EntryTables;
 use cam6_planes::{CellRow, Planes, Side};
 use std::marker::Model;
@@ -82,22 +82,22 @@ impl MidStep {
             IsNext o (step_by s (values_of tables.now) o) result }
         ensures goes_on { GoesOn self.planes self.done result }
     {
-        let mut room = Room::blank();
-        self.band_in(tables, &mut room)
+        let mut scratch = Scratch::blank();
+        self.band_in(tables, &mut scratch)
     }
 
     /// Makes the next sixteen rows, by the tables of the step. Returns the step, or the whole image
     /// if these rows were the last. The scratch is lent for it, and may hold anything before.
-    pub fn band_in(mut self, tables: &EntryTables, room: &mut Room) -> Next
+    pub fn band_in(mut self, tables: &EntryTables, scratch: &mut Scratch) -> Next
         ensures next { let s = width self.planes in (o : Cells) →
             Partway o (step_by s (values_of tables.now) o) self →
             IsNext o (step_by s (values_of tables.now) o) result }
         ensures goes_on { GoesOn self.planes self.done result }
     {
         if self.is_last() {
-            return Next::Whole(self.end(tables, room));
+            return Next::Whole(self.end(tables, scratch));
         }
-        self.go_on(tables, room);
+        self.go_on(tables, scratch);
         Next::More(self)
     }
 
@@ -110,7 +110,7 @@ impl MidStep {
     }
 
     /// As `band_in`, in place, if the band isn't the last one of the step.
-    pub fn go_on(&mut self, tables: &EntryTables, room: &mut Room)
+    pub fn go_on(&mut self, tables: &EntryTables, scratch: &mut Scratch)
         requires { self.old.done + band < width self.old.planes }
         ensures partway { let s = width self.old.planes in (o : Cells) →
             Partway o (step_by s (values_of tables.now) o) self.old →
@@ -124,13 +124,13 @@ impl MidStep {
             &self.first,
             self.done,
             tables,
-            room,
+            scratch,
         );
         self.done += BAND;
     }
 
     /// As `band_in`, if the band is the last one of the step.
-    pub fn end(mut self, tables: &EntryTables, room: &mut Room) -> AtRest
+    pub fn end(mut self, tables: &EntryTables, scratch: &mut Scratch) -> AtRest
         requires { self.done + band ≡ width self.planes }
         ensures planes { let s = width self.planes in (o : Cells) →
             Partway o (step_by s (values_of tables.now) o) self →
@@ -143,7 +143,7 @@ impl MidStep {
             &self.first,
             self.done,
             tables,
-            room,
+            scratch,
         );
         let MidStep {
             image,

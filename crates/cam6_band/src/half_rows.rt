@@ -12,7 +12,7 @@ ghost use Rattle.cam6_band.specs.Internal.HalfRows.{rows_of, bit_put};
 ghost use Rattle.cam6_band.specs.Internal.NewRows.{IsOutside};
 
 use crate::tables::HalfTable;
-use cam6_entries::{BandRows, TableRoom, row_of};
+use cam6_entries::{BandRows, TableScratch, row_of};
 use cam6_lines::{Band, HEIGHT, UNIT};
 use cam6_planes::{Planes, Side};
 use cam6_wiring::{Half, Level, Setting};
@@ -72,7 +72,7 @@ impl HalfRows {
     /// Makes the new rows of a band, by the half's table.
     pub(crate) fn make(
         &mut self,
-        room: &mut TableRoom,
+        scratch: &mut TableScratch,
         setting: &Setting,
         by: &HalfTable,
         band: &Band,
@@ -86,7 +86,7 @@ impl HalfRows {
         let HalfTable { table, hood, minor } = *by;
         let lower = &mut self.lower.rows;
         let upper = &mut self.upper.rows;
-        let written = table.band(room, lower, upper, setting, hood, minor, band);
+        let written = table.band(scratch, lower, upper, setting, hood, minor, band);
         self.lower.is_written = written.lower;
         self.upper.is_written = written.upper;
     }

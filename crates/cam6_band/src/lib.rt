@@ -2,7 +2,7 @@
 //! to another image and go on there.
 //!
 //! Contract: an image is at rest, spare, or in the middle of a step (`AtRest`, `Spare`, `MidStep`).
-//! `AtRest::begin` starts a step, and `MidStep::band_in` makes sixteen more rows of it, with a `Room`
+//! `AtRest::begin` starts a step, and `MidStep::band_in` makes sixteen more rows of it, with a `Scratch`
 //! as scratch. It promises this for all old planes from which the image is partway
 //! (`specs/Partway.antt`) to their step by the tables at hand (`specs/ByTables.antt`). The last band
 //! returns `Next::Whole`, with the planes after the step. The scratch may hold anything before a band
@@ -20,7 +20,7 @@
 //!
 //! Stands on: `cam6_planes`, `cam6_wiring`, `cam6_lines`, `cam6_entries` and `cam6_cycle`.
 //!
-//! Read next: `tables`, what a step uses, and `positions`, where it lies; `images`; `bands`; `rooms`,
+//! Read next: `tables`, what a step uses, and `positions`, where it lies; `images`; `bands`; `scratch`,
 //! what is lent to a band; then `new_rows`, the sixteen rows of a band, and `half_rows`, those of a
 //! half; and `laws`.
 #![tactic(auto)]
@@ -31,11 +31,11 @@ mod images;
 pub mod laws;
 mod new_rows;
 mod positions;
-mod rooms;
+mod scratch;
 mod tables;
 
 pub use bands::{BAND, MidStep, Next};
 pub use images::{AtRest, Spare};
 pub use positions::go_by;
-pub use rooms::Room;
+pub use scratch::Scratch;
 pub use tables::{EntryTables, HalfTable};

@@ -11,7 +11,7 @@ ghost use Rattle.cam6_band.specs.ByTables.{step_by, values_of, half_entries, set
 ghost use Rattle.cam6_band.specs.Limits.{band};
 ghost use Rattle.cam6_band.specs.Internal.NewRows.{AreOldRows, HasNewBits, IsOutside};
 
-use crate::rooms::{HalfRoom, Room};
+use crate::scratch::{HalfScratch, Scratch};
 use crate::tables::{EntryTables, HalfTable};
 use cam6_lines::{Band, HEIGHT};
 use cam6_planes::{CellRow, Planes};
@@ -27,7 +27,7 @@ pub(crate) fn step_band(
     first: &CellRow,
     y: usize,
     tables: &EntryTables,
-    room: &mut Room,
+    scratch: &mut Scratch,
 )
     requires { y + band ≤ width image.old }
     ensures new { let s = width image.old in (f : Cells) →
@@ -41,10 +41,10 @@ pub(crate) fn step_band(
     ensures limit { image.new.limit ≡ image.old.limit }
 {
     match tables.a {
-        Some(by) => step_halves(image, last, first, y, &by, tables, room),
+        Some(by) => step_halves(image, last, first, y, &by, tables, scratch),
         None => {
             let b = tables.setting(Half::B);
-            step_half(image, last, first, y, &b, &tables.b, &mut room.half)
+            step_half(image, last, first, y, &b, &tables.b, &mut scratch.half)
         }
     }
 }
@@ -58,7 +58,7 @@ fn step_halves(
     y: usize,
     by: &HalfTable,
     tables: &EntryTables,
-    room: &mut Room,
+    scratch: &mut Scratch,
 )
     requires { y + band ≤ width image.old }
     ensures a { let s = width image.old in (f : Cells) →
@@ -77,9 +77,9 @@ fn step_halves(
     let a = tables.setting(Half::A);
     let b = tables.setting(Half::B);
     let old = old_rows(image, last, first, y);
-    room.a.make(&mut room.half.table, &a, by, &old);
-    step_half(image, last, first, y, &b, &tables.b, &mut room.half);
-    room.a.put(image, Half::A, y);
+    scratch.a.make(&mut scratch.half.table, &a, by, &old);
+    step_half(image, last, first, y, &b, &tables.b, &mut scratch.half);
+    scratch.a.put(image, Half::A, y);
 }
 
 /// Writes a half's new rows over the old ones, if it has a table. With or without one, copies the
@@ -91,7 +91,7 @@ fn step_half(
     y: usize,
     setting: &Setting,
     table: &Option<HalfTable>,
-    room: &mut HalfRoom,
+    scratch: &mut HalfScratch,
 )
     requires { y + band ≤ width image.old }
     ensures new { let s = width image.old in (f : Cells) →
@@ -107,7 +107,7 @@ fn step_half(
     ensures limit { image.new.limit ≡ image.old.limit }
 {
     match *table {
-        Some(by) => step_by_table(image, last, first, y, setting, &by, room),
+        Some(by) => step_by_table(image, last, first, y, setting, &by, scratch),
         None => *last = *image.row(y + HEIGHT - 1),
     }
 }
@@ -121,7 +121,7 @@ fn step_by_table(
     y: usize,
     setting: &Setting,
     by: &HalfTable,
-    room: &mut HalfRoom,
+    scratch: &mut HalfScratch,
 )
     requires { y + band ≤ width image.old }
     ensures new { let s = width image.old in (f : Cells) →
@@ -137,9 +137,9 @@ fn step_by_table(
     ensures limit { image.new.limit ≡ image.old.limit }
 {
     let old = old_rows(image, last, first, y);
-    room.rows.make(&mut room.table, setting, by, &old);
+    scratch.rows.make(&mut scratch.table, setting, by, &old);
     *last = *image.row(y + HEIGHT - 1);
-    room.rows.put(image, setting.half, y);
+    scratch.rows.put(image, setting.half, y);
 }
 
 /// The old rows from row `y` on, with those beside them.

@@ -6,7 +6,7 @@ use crate::boards::{BandEnd, Board, BoardFault};
 use crate::images::Image;
 use crate::jobs::Job;
 use crate::tables::Tables;
-use cam6_band::Room;
+use cam6_band::Scratch;
 use cam6_planes::NoMemory;
 use std::alloc::Global;
 use std::marker::Model;
@@ -18,7 +18,7 @@ pub struct FlakyBoard {
     job: Option<Job>,
     tables: Tables,
     /// What each band is lent.
-    room: Box<Room>,
+    scratch: Box<Scratch>,
     /// The calls at which it fails: the next one is 1, and one that has been is 0.
     due: Vec<u64>,
     faults: u64,
@@ -48,11 +48,11 @@ impl FlakyBoard {
         ensures due { IfOk result (λ board. board.due ≡ calls.items) }
         ensures faults { IfOk result (λ board. board.faults ≡ 0) }
     {
-        let room = Box::new(alloc, Room::blank())?;
+        let scratch = Box::new(alloc, Scratch::blank())?;
         Ok(FlakyBoard {
             job: None,
             tables: Tables::blank(alloc)?,
-            room,
+            scratch,
             due: calls,
             faults: 0,
         })
@@ -160,7 +160,7 @@ impl Board for FlakyBoard {
         let Some(job) = &mut self.job else {
             unreachable!()
         };
-        Ok(job.band(self.tables.as_slice(), &mut self.room))
+        Ok(job.band(self.tables.as_slice(), &mut self.scratch))
     }
 
     /// Takes the job's image off the board. If this call is one of the list, the image is lost.

@@ -6,7 +6,7 @@ ghost use Rattle.cam6_band.specs.Limits.{band};
 ghost use Rattle.cam6_band.specs.Partway.{Partway};
 ghost use Rattle.cam6_band.specs.ByTables.{step_by, values_of};
 
-use cam6_band::{AtRest, EntryTables, MidStep, Next, Room, Spare};
+use cam6_band::{AtRest, EntryTables, MidStep, Next, Scratch, Spare};
 use cam6_planes::Side;
 
 /// An image at rest, or one in the middle of a step. A step can't be dropped, so it is abandoned.
@@ -84,14 +84,14 @@ impl Image {
 
     /// Goes on by one band, or begins a step with it. The image is at rest after a step's last
     /// band.
-    pub(crate) fn band(self, tables: &EntryTables, room: &mut Room) -> Image
+    pub(crate) fn band(self, tables: &EntryTables, scratch: &mut Scratch) -> Image
         // From whatever planes the step began.
         ensures planes { let s = width (planes_in self) in (o : Cells) →
             IsOnTheWay o (step_by s (values_of tables.now) o) self →
             IsBehindBand o (step_by s (values_of tables.now) o) result }
         ensures goes_on { GoesOn self result }
     {
-        match self.into_step(tables).band_in(tables, room) {
+        match self.into_step(tables).band_in(tables, scratch) {
             Next::More(step) => Image::Mid(step),
             Next::Whole(image) => Image::Rest(image),
         }
@@ -99,7 +99,7 @@ impl Image {
 
     /// Goes on by one band in place, if it is in the middle of a step and the band isn't the step's
     /// last. Returns whether it did. Otherwise nothing changes.
-    pub(crate) fn go_on(&mut self, tables: &EntryTables, room: &mut Room) -> bool
+    pub(crate) fn go_on(&mut self, tables: &EntryTables, scratch: &mut Scratch) -> bool
         // From whatever planes the step began.
         ensures planes { IsTrue result → let s = width (planes_in self.old) in (o : Cells) →
             IsOnTheWay o (step_by s (values_of tables.now) o) self.old →
@@ -109,7 +109,7 @@ impl Image {
     {
         match self {
             Image::Mid(step) if !step.is_last() => {
-                step.go_on(tables, room);
+                step.go_on(tables, scratch);
                 true
             }
             _ => false,

@@ -6,7 +6,7 @@ ghost use Rattle.cam6_board.specs.Bands.{end_of};
 use crate::boards::BandEnd;
 use crate::images::Image;
 use crate::worked::Worked;
-use cam6_band::{Room, go_by};
+use cam6_band::{Scratch, go_by};
 use cam6_cycle::{Cycle, Direction};
 use cam6_entries::Table;
 use std::marker::Model;
@@ -97,13 +97,13 @@ impl Job {
 
     /// Does one band, by tables that lie as the cycle needs them, with scratch that is lent for it.
     /// If a step ends with it, moves the position on and counts the step.
-    pub fn band(&mut self, tables: &[Table], room: &mut Room) -> BandEnd
+    pub fn band(&mut self, tables: &[Table], scratch: &mut Scratch) -> BandEnd
         requires work { 0 < self.old.steps }
         requires room { max_tables ≤ length tables.now }
         ensures { Moves tables.now self.old result self.new }
     {
         let (by, after) = go_by(&self.cycle, self.position, self.direction, tables);
-        self.image.band(&by, room);
+        self.image.band(&by, scratch);
         if !self.image.image().is_rest() {
             return BandEnd::Inside;
         }

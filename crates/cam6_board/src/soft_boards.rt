@@ -5,7 +5,7 @@ use crate::boards::{BandEnd, Board, BoardFault};
 use crate::images::Image;
 use crate::jobs::Job;
 use crate::tables::Tables;
-use cam6_band::Room;
+use cam6_band::Scratch;
 use cam6_planes::NoMemory;
 use std::alloc::Global;
 
@@ -15,7 +15,7 @@ pub struct SoftBoard {
     job: Option<Job>,
     tables: Tables,
     /// What each band is lent.
-    room: Box<Room>,
+    scratch: Box<Scratch>,
 }
 
 impl SoftBoard {
@@ -26,11 +26,11 @@ impl SoftBoard {
     pub fn new(alloc: Global) -> Result<SoftBoard, NoMemory>
         ensures { IfOk result (λ board. load_in board ≡ empty) }
     {
-        let room = Box::new(alloc, Room::blank())?;
+        let scratch = Box::new(alloc, Scratch::blank())?;
         Ok(SoftBoard {
             job: None,
             tables: Tables::blank(alloc)?,
-            room,
+            scratch,
         })
     }
 }
@@ -77,7 +77,7 @@ impl Board for SoftBoard {
         let Some(job) = &mut self.job else {
             unreachable!()
         };
-        Ok(job.band(self.tables.as_slice(), &mut self.room))
+        Ok(job.band(self.tables.as_slice(), &mut self.scratch))
     }
 
     /// Takes the job's image off the board. Never fails.

@@ -6,7 +6,7 @@ ghost use Rattle.cam6_band.specs.ByTables.{step_by, values_of};
 ghost use Rattle.cam6_board.specs.Images.{planes_in, IsOnTheWay, IsBehindBand, GoesOn};
 
 use crate::images::Image;
-use cam6_band::{EntryTables, Room};
+use cam6_band::{EntryTables, Scratch};
 use std::marker::Model;
 
 /// An image. It is away only in the midst of a band. Contracts see the image.
@@ -56,7 +56,7 @@ impl Worked {
     }
 
     /// Goes on by one band, or begins a step with it.
-    pub(crate) fn band(&mut self, tables: &EntryTables, room: &mut Room)
+    pub(crate) fn band(&mut self, tables: &EntryTables, scratch: &mut Scratch)
         // From whatever planes the step began.
         ensures planes { let s = width (planes_in self.old) in (o : Cells) →
             IsOnTheWay o (step_by s (values_of tables.now) o) self.old →
@@ -66,13 +66,13 @@ impl Worked {
         let Some(image) = &mut self.image else {
             unreachable!()
         };
-        if image.go_on(tables, room) {
+        if image.go_on(tables, scratch) {
             return;
         }
         let image = match self.image.take() {
             Some(image) => image,
             None => unreachable!(),
         };
-        self.image = Some(image.band(tables, room));
+        self.image = Some(image.band(tables, scratch));
     }
 }

@@ -15,7 +15,7 @@ ghost use Rattle.cam6_entries.specs.Bands.{ShowNewBits, MakesRows, seen_by, all_
 ghost use Rattle.cam6_entries.specs.Limits.{addresses};
 ghost use Rattle.cam6_entries.specs.Programs.{ComputesUnder};
 
-use crate::rooms::TableRoom;
+use crate::scratch::TableScratch;
 use crate::tables::Table;
 use cam6_lines::{Band, HEIGHT, Plan, UNIT, Unit, UnitLines, units_of_band, words_of_row};
 use cam6_lookup::look_up_words;
@@ -53,7 +53,7 @@ impl Table {
     /// may stay unwritten. Words past the side may hold anything. So may the scratch before.
     pub fn band(
         &self,
-        room: &mut TableRoom,
+        scratch: &mut TableScratch,
         lower: &mut BandRows,
         upper: &mut BandRows,
         setting: &Setting,
@@ -72,7 +72,7 @@ impl Table {
             && plan.is_for(asked, hood, minor)
         {
             return by_plan(
-                room,
+                scratch,
                 &self.entries,
                 &self.program,
                 plan,
@@ -84,7 +84,7 @@ impl Table {
         }
         let plan = Plan::of(ALL_LINES, hood, minor);
         by_plan(
-            room,
+            scratch,
             &self.entries,
             &None,
             &plan,
@@ -98,7 +98,7 @@ impl Table {
 
 /// Makes the new rows under a plan's wiring: by the program, or by look-ups without a program.
 fn by_plan(
-    room: &mut TableRoom,
+    scratch: &mut TableScratch,
     entries: &[u8],
     program: &Option<Program>,
     plan: &Plan,
@@ -120,9 +120,17 @@ fn by_plan(
         Upper result.upper upper.new }
 {
     match program {
-        Some(program) => by_program(room, program, plan, lower, upper, setting, band),
+        Some(program) => by_program(scratch, program, plan, lower, upper, setting, band),
         None => {
-            by_look_ups(&mut room.lines, entries, plan, lower, upper, setting, band);
+            by_look_ups(
+                &mut scratch.lines,
+                entries,
+                plan,
+                lower,
+                upper,
+                setting,
+                band,
+            );
             Written {
                 lower: true,
                 upper: true,
@@ -135,7 +143,7 @@ fn by_plan(
 /// emptied when it is entered, and a program does not need it.
 #[inline(never)]
 fn by_look_ups(
-    room: &mut UnitLines,
+    scratch: &mut UnitLines,
     entries: &[u8],
     plan: &Plan,
     lower: &mut BandRows,
@@ -156,15 +164,15 @@ fn by_look_ups(
     let side = band.planes.side();
     let words = HEIGHT * words_of_row(side);
     for unit in 0..units_of_band(side) {
-        room.put(plan, setting, band, unit);
-        let lines = room.lines();
+        scratch.put(plan, setting, band, unit);
+        let lines = scratch.lines();
         look_up_words::<UNIT>(&mut lower[unit], &mut upper[unit], &lines, words, entries);
     }
 }
 
 /// Makes the new rows by a program. A plane in which the program keeps every bit is not written.
 fn by_program(
-    room: &mut TableRoom,
+    scratch: &mut TableScratch,
     program: &Program,
     plan: &Plan,
     lower: &mut BandRows,
@@ -185,7 +193,7 @@ fn by_program(
         else f (plane_of setting.now.half Upper) x (band.now.first + r))
         ≡ bit_by Upper program.now (seen_by plan.now setting.now f band.now r x) }
 {
-    by_units(room, program, plan, lower, upper, setting, band);
+    by_units(scratch, program, plan, lower, upper, setting, band);
     Written {
         lower: !program.keeps(Level::Lower),
         upper: !program.keeps(Level::Upper),
@@ -194,7 +202,7 @@ fn by_program(
 
 /// Makes the new rows unit by unit. A level that is kept is not written.
 fn by_units(
-    room: &mut TableRoom,
+    scratch: &mut TableScratch,
     program: &Program,
     plan: &Plan,
     lower: &mut BandRows,
@@ -212,12 +220,12 @@ fn by_units(
     let side = band.planes.side();
     let words = HEIGHT * words_of_row(side);
     for unit in 0..units_of_band(side) {
-        room.lines.put(plan, setting, band, unit);
-        let lines = room.lines.lines();
+        scratch.lines.put(plan, setting, band, unit);
+        let lines = scratch.lines.lines();
         program.run(
             &lines,
             words,
-            &mut room.slots,
+            &mut scratch.slots,
             &mut lower[unit],
             &mut upper[unit],
         );

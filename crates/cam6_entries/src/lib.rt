@@ -5,7 +5,7 @@
 //! (`specs/Bands.antt`). A table may have a program, which `Table::quicken` makes from its entries
 //! for one wiring (`specs/Programs.antt`). A band by the program gives the same bits as one by
 //! look-ups, only faster. An entry that is written takes the program away. A band is lent a
-//! `TableRoom`, which may hold anything before it and after it. Only `Table::blank` allocates.
+//! `TableScratch`, which may hold anything before it and after it. Only `Table::blank` allocates.
 //!
 //! So, if entry 5 of a table is 2, each cell that shows address 5 gets 0 in the lower plane of the
 //! half and 1 in the upper plane.
@@ -14,14 +14,14 @@
 //!
 //! Stands on: `cam6_planes`, `cam6_wiring`, `cam6_lookup`, `cam6_lines` and `cam6_program`.
 //!
-//! Read next: `tables`; `programs`; `rooms`, what is lent to a band; then `bands`.
+//! Read next: `tables`; `programs`; `scratch`, what is lent to a band; then `bands`.
 #![tactic(auto)]
 
 mod bands;
 mod programs;
-mod rooms;
+mod scratch;
 mod tables;
 
 pub use bands::{BandRows, Written, row_of};
-pub use rooms::TableRoom;
+pub use scratch::TableScratch;
 pub use tables::{ENTRIES, Table};

@@ -22,7 +22,7 @@ use crate::refusals::{accept_colours, accept_run};
 use crate::replies::Now;
 use crate::runs::go_along;
 use crate::saving::{saved_colours, saved_planes};
-use cam6_band::{AtRest, Room};
+use cam6_band::{AtRest, Scratch};
 use cam6_commands::{
     Command, Done, Fault, NamedEntries, Names, Refusal, Reply, SavedMachine, Text,
 };
@@ -46,7 +46,7 @@ pub struct Kept {
     colours: [u8; 16],
     tables: Tables,
     /// What each band is lent.
-    room: Box<Room>,
+    scratch: Box<Scratch>,
 }
 
 impl Model for Kept {
@@ -72,7 +72,7 @@ impl Kept {
     pub(crate) fn new(alloc: Global, limit: Side) -> Result<Kept, NoMemory>
         ensures { IfOk result (λ kept. kept ≡ nothing_kept limit) }
     {
-        let room = Box::new(alloc, Room::blank())?;
+        let scratch = Box::new(alloc, Scratch::blank())?;
         Ok(Kept {
             alloc,
             limit,
@@ -81,7 +81,7 @@ impl Kept {
             position: 0,
             colours: [0, 1, 2, 3, 4, 5, 6, 7, 8, 9, 10, 11, 12, 13, 14, 15],
             tables: Tables::blank(alloc)?,
-            room,
+            scratch,
         })
     }
 
@@ -346,8 +346,16 @@ impl Kept {
             Err(_) => unreachable!(),
         }
         let tables = self.tables.by_use();
-        let room = &mut self.room;
-        let (image, position) = go_along(image, cycle, direction, tables, room, self.position, n);
+        let scratch = &mut self.scratch;
+        let (image, position) = go_along(
+            image,
+            cycle,
+            direction,
+            tables,
+            scratch,
+            self.position,
+            n,
+        );
         self.position = position;
         image
     }

@@ -38,10 +38,10 @@ pub(crate) fn tried_machine(
     alloc: Global,
     limit: Side,
     saved: SavedMachine,
-    room: &mut Tables,
+    scratch: &mut Tables,
 ) -> Result<Result<Loaded, Fault>, NoMemory>
     ensures loaded { IfOk result (λ found. IsLoaded limit saved found) }
-    ensures room { room.new ≡ room.old }
+    ensures scratch { scratch.new ≡ scratch.old }
     // Only rules need memory.
     ensures memory { saved.rules ≡ [] → IsOk result }
 {
@@ -62,7 +62,7 @@ pub(crate) fn tried_machine(
     let Ok(colours) = accept_colours(&colours) else {
         return Ok(Err(Fault::NoMachine));
     };
-    let Some(rules) = Rules::of(alloc, rules, room)? else {
+    let Some(rules) = Rules::of(alloc, rules, scratch)? else {
         return Ok(Err(Fault::NoMachine));
     };
     if !is_position(cycle.as_slice(), position) {

@@ -11,7 +11,7 @@ ghost use Rattle.cam6_model.specs.Moves.{moved, CanMove};
 ghost use Rattle.cam6_model.specs.Always.{HaveOwnNames};
 
 use crate::steps::step;
-use cam6_band::{AtRest, Room, go_by};
+use cam6_band::{AtRest, Scratch, go_by};
 use cam6_cycle::{Cycle, Direction};
 use cam6_entries::Table;
 
@@ -21,7 +21,7 @@ pub(crate) fn go_along(
     cycle: &Cycle,
     direction: Direction,
     tables: &[Table],
-    room: &mut Room,
+    scratch: &mut Scratch,
     position: usize,
     n: u16,
 ) -> (AtRest, usize)
@@ -41,7 +41,7 @@ pub(crate) fn go_along(
     let mut position = position;
     for _step in 0..n {
         let (by, after) = go_by(cycle, position, direction, tables);
-        image = step(image, &by, room);
+        image = step(image, &by, scratch);
         position = after;
     }
     (image, position)

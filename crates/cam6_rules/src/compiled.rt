@@ -95,13 +95,13 @@ pub(crate) fn tried_rule(
     alloc: Global,
     wiring: Wiring,
     text: Text,
-    room: &mut Tables,
+    scratch: &mut Tables,
 ) -> Result<CompiledRule, NotCompiled>
     ensures verdict { IsVerdict wiring text result }
     // If nothing of the text is kept, no memory is needed.
     ensures unkept { keeps wiring text ≡ false → result ≢ Err NotCompiled.NoMemory }
-    ensures room { room.new ≡ room.old }
+    ensures scratch { scratch.new ≡ scratch.old }
 {
-    let code = room.compile(alloc, wiring, text.as_str())?;
+    let code = scratch.compile(alloc, wiring, text.as_str())?;
     Ok(CompiledRule::new(wiring, text, code))
 }

@@ -89,16 +89,16 @@ impl Rules {
     pub fn of(
         alloc: Global,
         rules: NamedRules,
-        room: &mut Tables,
+        scratch: &mut Tables,
     ) -> Result<Option<Rules>, NoMemory>
         ensures rules { IfOk result (λ found. AreDefined rules found) }
-        ensures room { room.new ≡ room.old }
+        ensures scratch { scratch.new ≡ scratch.old }
         // An empty list of rules needs no memory.
         ensures memory { rules ≡ [] → IsOk result }
     {
         let mut kept = Rules::new(alloc);
         for rule in rules.into_vec() {
-            if !kept.add(rule, room)? {
+            if !kept.add(rule, scratch)? {
                 return Ok(None);
             }
         }
@@ -106,15 +106,15 @@ impl Rules {
     }
 
     /// Defines a rule after the others. Returns false if one has its name or it is refused.
-    fn add(&mut self, rule: NamedRule, room: &mut Tables) -> Result<bool, NoMemory>
+    fn add(&mut self, rule: NamedRule, scratch: &mut Tables) -> Result<bool, NoMemory>
         ensures rules { IfOk result (λ is. IsAdded is self.old self.new rule) }
-        ensures room { room.new ≡ room.old }
+        ensures scratch { scratch.new ≡ scratch.old }
     {
         let NamedRule { name, wiring, text } = rule;
         if self.has_name(&name) {
             return Ok(false);
         }
-        match self.define(&[], name, wiring, text, room) {
+        match self.define(&[], name, wiring, text, scratch) {
             Ok(()) => Ok(true),
             Err(NotDefined::Refused(_)) => Ok(false),
             Err(NotDefined::NoMemory) => Err(NoMemory),
@@ -183,7 +183,7 @@ impl Rules {
         name: Text,
         wiring: Wiring,
         text: Text,
-        room: &mut Tables,
+        scratch: &mut Tables,
     ) -> Result<(), NotDefined>
         ensures refusal { IsDefinedUnless
             (definition_refusal self.old (named_entries self.old cycle.now) name wiring text)
@@ -196,11 +196,11 @@ impl Rules {
         ensures named { AreNumbered self.old cycle.now →
             named_entries self.new cycle.now ≡ named_entries self.old cycle.now }
         ensures numbered { AreNumbered self.old cycle.now → AreNumbered self.new cycle.now }
-        ensures tables { AreNumbered self.old cycle.now → AreTrue room.old self.old cycle.now →
-            AreTrue room.new self.new cycle.now }
+        ensures tables { AreNumbered self.old cycle.now → AreTrue scratch.old self.old cycle.now →
+            AreTrue scratch.new self.new cycle.now }
 
         ensures err { OnErr result (self.new ≡ self.old) }
-        ensures room { room.new ≡ room.old }
+        ensures scratch { scratch.new ≡ scratch.old }
         // If nothing of the text is kept, no memory is needed.
         ensures memory { keeps_definition self.old (named_entries self.old cycle.now) name wiring
             text ≡ false → result ≢ Err NotDefined.NoMemory }
@@ -208,7 +208,7 @@ impl Rules {
         if let Err(fault) = accept_rule(&self.by_name, cycle, &name) {
             return Err(NotDefined::Refused(Refusal::Fault(fault)));
         }
-        match tried_rule(self.alloc, wiring, text, room) {
+        match tried_rule(self.alloc, wiring, text, scratch) {
             Ok(rule) => {
                 put(&mut self.by_name, name, rule)?;
                 Ok(())

@@ -63,10 +63,10 @@ fn fill_where_lines_differ(
         IsRight (result_at code.now) table.new a) }
     ensures fault { IfErr result (λ refused. IsLeastStop (result_at code.now) refused.0 refused.1) }
 {
-    let mut room = new_room(code);
+    let mut scratch = new_scratch(code);
     leave_unfilled(table);
-    fill_in_groups(code, mask, &mut room, table);
-    fill_the_rest(code, mask, &mut room, table)
+    fill_in_groups(code, mask, &mut scratch, table);
+    fill_the_rest(code, mask, &mut scratch, table)
 }
 
 /// Marks the entry at each address as not filled.
@@ -82,7 +82,7 @@ fn leave_unfilled(table: &mut Table)
 
 /// Fills entries group by group, in an order in which lanes part seldom. It stops at a fault, and
 /// then leaves the rest.
-fn fill_in_groups(code: &Code, mask: u16, room: &mut Room, table: &mut Table)
+fn fill_in_groups(code: &Code, mask: u16, scratch: &mut Scratch, table: &mut Table)
     requires whole { length table.old ≡ addresses }
     requires before { AreRightIfFilled (result_at code.now) table.old }
     ensures whole { length table.new ≡ addresses }
@@ -96,7 +96,7 @@ fn fill_in_groups(code: &Code, mask: u16, room: &mut Room, table: &mut Table)
     for group in 0..ENTRIES {
         if group & mask & !own == group {
             let at = in_group(group, &lanes.addresses);
-            if fill_lanes(code, &at, lanes.count, room, table).is_err() {
+            if fill_lanes(code, &at, lanes.count, scratch, table).is_err() {
                 return;
             }
         }
@@ -118,7 +118,7 @@ fn in_group(group: u16, own: &LaneValues) -> LaneValues
 fn fill_the_rest(
     code: &Code,
     mask: u16,
-    room: &mut Room,
+    scratch: &mut Scratch,
     table: &mut Table,
 ) -> Result<(), (u16, RuleFault)>
     requires mask { IsMaskFor mask code.now }
@@ -133,7 +133,7 @@ fn fill_the_rest(
     let mut from = 0;
     while from <= last {
         let batch = next_batch(mask, from, last, table);
-        if let Err(stop) = fill_lanes(code, &batch.addresses, batch.count, room, table) {
+        if let Err(stop) = fill_lanes(code, &batch.addresses, batch.count, scratch, table) {
             return Err(stop);
         }
         from = batch.end;
@@ -183,14 +183,14 @@ fn next_batch(mask: u16, from: u16, last: u16, table: &Table) -> Batch
 
 /// Scratch for a batch: where each lane is, and its state.
 #[derive(Drop)]
-struct Room {
+struct Scratch {
     places: Places,
     lanes: Lanes,
 }
 
 /// Scratch with each lane at the start of the code and its stack empty.
-fn new_room(code: &Code) -> Room {
-    Room {
+fn new_scratch(code: &Code) -> Scratch {
+    Scratch {
         places: all_at_start(code.instructions()),
         lanes: all_untouched(),
     }
@@ -202,7 +202,7 @@ fn fill_lanes(
     code: &Code,
     at: &LaneValues,
     count: usize,
-    room: &mut Room,
+    scratch: &mut Scratch,
     table: &mut Table,
 ) -> Result<(), (u16, RuleFault)>
     requires lanes { count ≤ LANES }
@@ -218,9 +218,9 @@ fn fill_lanes(
     ensures fault { IfErr result (λ refused.
         IsFirstStop at.now count (result_at code.now) refused.0 refused.1) }
 {
-    run_all(code, at, room);
+    run_all(code, at, scratch);
     for lane in 0..count {
-        match entry_in(code, room, lane, at[lane]) {
+        match entry_in(code, scratch, lane, at[lane]) {
             Ok(entry) => table.put(at[lane], entry),
             Err(fault) => return Err((at[lane], fault)),
         }
@@ -229,27 +229,32 @@ fn fill_lanes(
 }
 
 /// Runs the code from its start in all lanes, as far as they go together.
-fn run_all(code: &Code, addresses: &LaneValues, room: &mut Room)
-    ensures left { AreLeft addresses.now code.now room.new.places room.new.lanes }
+fn run_all(code: &Code, addresses: &LaneValues, scratch: &mut Scratch)
+    ensures left { AreLeft addresses.now code.now scratch.new.places scratch.new.lanes }
 {
     let instructions = code.instructions();
-    room.places = all_at_start(instructions);
-    clear(&mut room.lanes);
-    run_together(instructions, addresses, &mut room.places, &mut room.lanes);
+    scratch.places = all_at_start(instructions);
+    clear(&mut scratch.lanes);
+    run_together(
+        instructions,
+        addresses,
+        &mut scratch.places,
+        &mut scratch.lanes,
+    );
 }
 
 /// The code's entry at an address, or its fault there. Runs the code on from where its lane is.
-fn entry_in(code: &Code, room: &Room, lane: usize, address: u16) -> Result<u8, RuleFault>
+fn entry_in(code: &Code, scratch: &Scratch, lane: usize, address: u16) -> Result<u8, RuleFault>
     requires lane { lane < LANES }
-    requires left { IsLeft address code.now (slice_index room.now.places.behinds lane)
-        (slice_index room.now.places.tops lane) room.now.lanes lane }
+    requires left { IsLeft address code.now (slice_index scratch.now.places.behinds lane)
+        (slice_index scratch.now.places.tops lane) scratch.now.lanes lane }
     ensures { result ≡ result_at code.now address }
 {
-    let behind = usize::from(room.places.behinds[lane]);
+    let behind = usize::from(scratch.places.behinds[lane]);
     if behind == 0 {
-        return Ok(entry_at_end(&room.lanes, lane, address));
+        return Ok(entry_at_end(&scratch.lanes, lane, address));
     }
-    let mut state = state_of(&room.lanes, lane, usize::from(room.places.tops[lane]));
+    let mut state = state_of(&scratch.lanes, lane, usize::from(scratch.places.tops[lane]));
     let mut steps = MAX_EVAL_STEPS;
     let place = Place { behind, word: None };
     run(code.instructions(), place, address, &mut state, &mut steps)?;

@@ -122,7 +122,7 @@ fn why_refused(
     text: &str,
     inverted: bool,
     table: &Table,
-    room: &mut Table,
+    scratch: &mut Table,
 ) -> Option<NotReversible>
     requires { IsTableOf wiring text.now table.now }
     ensures { result ≡ None → inverted ≡ true →
@@ -131,7 +131,7 @@ fn why_refused(
     if !inverted {
         return None;
     }
-    match invert(table, wiring.hood, wiring.minor, room) {
+    match invert(table, wiring.hood, wiring.minor, scratch) {
         Ok(()) => {
             a_table_that_can_be_inverted_makes_its_key_reversible();
             None

@@ -15,9 +15,9 @@ pub enum Times {
     Twice,
 }
 
-/// Room for a table, and for its inverse.
+/// Scratch for a table, and for its inverse.
 #[derive(Drop)]
-struct Room {
+struct Scratch {
     table: Table,
     inverse: Table,
 }
@@ -27,11 +27,11 @@ struct Room {
 pub fn inverses(alloc: Global, wiring: Wiring, times: Times, sent: &[Sent]) -> io::Result<Vec<u8>> {
     let table = Table::blank(alloc).map_err(|_| no_memory())?;
     let inverse = Table::blank(alloc).map_err(|_| no_memory())?;
-    let mut room = Room { table, inverse };
+    let mut scratch = Scratch { table, inverse };
     let mut answers = Vec::new(alloc);
     for text in sent {
-        match filled(alloc, wiring, times, text, &mut room)? {
-            Ok(()) => add_table(&mut answers, &room.inverse)?,
+        match filled(alloc, wiring, times, text, &mut scratch)? {
+            Ok(()) => add_table(&mut answers, &scratch.inverse)?,
             Err(cause) => add_line(&mut answers, cause.as_str())?,
         }
     }
@@ -44,13 +44,19 @@ fn filled(
     wiring: Wiring,
     times: Times,
     text: &Sent,
-    room: &mut Room,
+    scratch: &mut Scratch,
 ) -> io::Result<Result<(), String>> {
-    let first = inverse_of_text(alloc, wiring, text, &mut room.table, &mut room.inverse)?;
+    let first = inverse_of_text(
+        alloc,
+        wiring,
+        text,
+        &mut scratch.table,
+        &mut scratch.inverse,
+    )?;
     match (first, times) {
         (Ok(()), Times::Twice) => {
-            std::mem::swap(&mut room.table, &mut room.inverse);
-            inverse_of(alloc, wiring, &room.table, &mut room.inverse)
+            std::mem::swap(&mut scratch.table, &mut scratch.inverse);
+            inverse_of(alloc, wiring, &scratch.table, &mut scratch.inverse)
         }
         (first, _) => Ok(first),
     }

@@ -15,13 +15,13 @@ ok_entry v = Ok v
 pub returns-then-behind-eq0 : goal.returns-then-behind-eq0
 returns-then-behind-eq0 c =
     let code = c.args.code.now in
-    let room = c.args.room.now in
+    let scratch = c.args.scratch.now in
     let address = c.args.address in
-    let behind = slice_index room.places.behinds c.args.lane in
-    let top = slice_index room.places.tops c.args.lane in
+    let behind = slice_index scratch.places.behinds c.args.lane in
+    let top = slice_index scratch.places.tops c.args.lane in
     let none : last_of behind code ≡ [] = drop_all (length code - behind) code (omega arith) in
     ap ok_entry (c.entry_at_end.ensures.entry top) ∙
     ap (entry_at address)
     (sym (ap (λ (left : List Instruction).
-    exec (shown address) left 0 None (state_at c.args.lane top room.lanes)) none) ∙
+    exec (shown address) left 0 None (state_at c.args.lane top scratch.lanes)) none) ∙
     c.requires.left.left)

@@ -8,7 +8,7 @@ use Rattle.cam6_table.proofs.filling.fill_lanes.Given as goal
 abbrev pub invariant-loop-lane : goal.invariant-loop-lane
 invariant-loop-lane l = record {
   all : length l.table ≡ 4096;
-  left : AreLeft l.at l.code l.room.places l.room.lanes;
+  left : AreLeft l.at l.code l.scratch.places l.scratch.lanes;
   after : AreRightIfFilled (result_at l.code) l.table;
   kept : (a : ℕ) → a < 4096 → IsRight (result_at l.code) l.fn.table a →
       IsRight (result_at l.code) l.table a;

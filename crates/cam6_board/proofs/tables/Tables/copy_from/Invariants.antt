@@ -4,6 +4,6 @@ use Rattle.cam6_board.proofs.tables.Tables.copy_from.Given as goal
 
 abbrev pub invariant-loop-place : goal.invariant-loop-place
 invariant-loop-place l = record {
-  room : vec_len l.self-inside.by_use ≡ max_tables;
+  scratch : vec_len l.self-inside.by_use ≡ max_tables;
   copied : take l.place l.self-inside.by_use.items ≡ take l.place l.other-inside.by_use.items;
 }

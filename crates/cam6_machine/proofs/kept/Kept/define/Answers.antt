@@ -31,7 +31,7 @@ invariant_of-self-2 c =
           (after-rule some_planes k.limit k.rules cycle k.position k.colours name text wiring new
           accepted c.in-Ok.ensures.rules named)
           (subst (AreNumbered new) same (c.define.ensures.numbered there)),
-      subst (AreTrue c.define.new.room new) same
+      subst (AreTrue c.define.new.scratch new) same
           (c.define.ensures.tables there
           (subst (AreTrue k.tables k.rules) (sym same) c.self.invariant.1)),
     )

@@ -31,16 +31,16 @@ put c =
     c.in_ok-put-in-Ok.ensures.ok
 
 -- there is room for it
-room : (c : goal.In_ok-put-in-Ok) →
+scratch : (c : goal.In_ok-put-in-Ok) →
     let rules = rules_of c.self.inside.by_name.entries in
     rule_refusal rules (named_entries rules c.args.cycle.now) c.args.name ≡ None
-room c = sym c.in_default.ensures
+scratch c = sym c.in_default.ensures
 
 pub invariant_of-self-in-Ok : goal.invariant_of-self-in-Ok
 invariant_of-self-in-Ok c =
     let rules = rules_of c.self.inside.by_name.entries in
     subst AreRules (sym (put c))
-    (rules_defined (new c) rules (named_entries rules c.args.cycle.now) c.self.invariant (room c)
+    (rules_defined (new c) rules (named_entries rules c.args.cycle.now) c.self.invariant (scratch c)
     (verdict c).0 (verdict c).3)
 
 pub returns-in_err-put-in-Ok-clause-memory : goal.returns-in_err-put-in-Ok-clause-memory
@@ -70,7 +70,7 @@ returns-in-Ok-clause-numbered c = λ numbered.
     let rules = rules_of c.self.inside.by_name.entries in
     let cycle = c.args.cycle.now in
     subst (λ (l : List Rule). AreNumbered l cycle) (sym (put c))
-    (numbered_with (new c) rules cycle c.self.invariant.own (room c)
+    (numbered_with (new c) rules cycle c.self.invariant.own (scratch c)
     (subst (λ (l : List Rule). AreNumbered l cycle) (sym c.self.view_is) numbered))
 
 pub returns-in-Ok-clause-tables : goal.returns-in-Ok-clause-tables
@@ -79,10 +79,10 @@ returns-in-Ok-clause-tables c = λ numbered are.
     let cycle = c.args.cycle.now in
     subst (λ tables. AreTrue tables (rules_of c.put.new.rules.entries) cycle)
     (sym c.tried_rule.ensures.room)
-    (subst (λ (l : List Rule). AreTrue c.args.room.now l cycle) (sym (put c))
-    (tables_with (new c) rules cycle c.args.room.now c.self.invariant.own (room c)
+    (subst (λ (l : List Rule). AreTrue c.args.scratch.now l cycle) (sym (put c))
+    (tables_with (new c) rules cycle c.args.scratch.now c.self.invariant.own (scratch c)
     (subst (λ (l : List Rule). AreNumbered l cycle) (sym c.self.view_is) numbered)
-    (subst (λ (l : List Rule). AreTrue c.args.room.now l cycle) (sym c.self.view_is) are)))
+    (subst (λ (l : List Rule). AreTrue c.args.scratch.now l cycle) (sym c.self.view_is) are)))
 
 pub returns-in-Ok-clause-text : goal.returns-in-Ok-clause-text
 returns-in-Ok-clause-text c = (verdict c).3

@@ -7,5 +7,5 @@ abbrev pub invariant-loop-rule : goal.invariant-loop-rule
 invariant-loop-rule l = record {
   all : l.kept ++ into_iter_items l.rule-iterator ≡ l.fn.rules;
   rest : are_rules_after l.kept (into_iter_items l.rule-iterator) ≡ are_rules_after [] l.fn.rules;
-  room : l.room ≡ l.fn.room;
+  scratch : l.scratch ≡ l.fn.scratch;
 }

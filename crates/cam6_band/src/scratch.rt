@@ -1,32 +1,32 @@
 //! The scratch that is lent to bands.
 
 use crate::half_rows::HalfRows;
-use cam6_entries::TableRoom;
+use cam6_entries::TableScratch;
 
 /// Scratch for the bands of steps. It is made once and lent to each band. Nothing is promised of what
 /// it holds between bands.
 #[derive(Drop)]
-pub struct Room {
+pub struct Scratch {
     /// Half A's new rows, which are made before those of half B and written after them.
     pub(crate) a: HalfRows,
-    pub(crate) half: HalfRoom,
+    pub(crate) half: HalfScratch,
 }
 
 /// Scratch for a half's new rows, and for what its table needs to make them.
 #[derive(Drop)]
-pub(crate) struct HalfRoom {
+pub(crate) struct HalfScratch {
     pub(crate) rows: HalfRows,
-    pub(crate) table: TableRoom,
+    pub(crate) table: TableScratch,
 }
 
-impl Room {
+impl Scratch {
     /// Scratch for the bands of any step.
-    pub fn blank() -> Room {
-        Room {
+    pub fn blank() -> Scratch {
+        Scratch {
             a: HalfRows::blank(),
-            half: HalfRoom {
+            half: HalfScratch {
                 rows: HalfRows::blank(),
-                table: TableRoom::blank(),
+                table: TableScratch::blank(),
             },
         }
     }

@@ -6,15 +6,15 @@ use cam6_program::Slots;
 /// Scratch for what the cells of a unit see, and for the slots of a program. It is made once and lent
 /// to each band. Nothing is promised of what it holds between bands.
 #[derive(Drop)]
-pub struct TableRoom {
+pub struct TableScratch {
     pub(crate) lines: UnitLines,
     pub(crate) slots: Slots,
 }
 
-impl TableRoom {
+impl TableScratch {
     /// Scratch for the bands of any table.
-    pub fn blank() -> TableRoom {
-        TableRoom {
+    pub fn blank() -> TableScratch {
+        TableScratch {
             lines: UnitLines::blank(),
             slots: Slots::blank(),
         }
