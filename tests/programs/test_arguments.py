@@ -20,7 +20,7 @@ from support.commands import Command, cycle_command, do, rule_command
 from support.programs import TOP, Host, Peer, Ran, ran, wait_until
 
 EXAMPLES = TOP / "crates" / "cam6_host" / "arguments.examples"
-STATEMENT = TOP / "crates" / "cam6_modes" / "specs" / "Statuses.antt"
+STATEMENT = TOP / "crates" / "cam6_cli" / "specs" / "Statuses.antt"
 # Seconds in which a run has to end.
 PATIENCE = 60
 

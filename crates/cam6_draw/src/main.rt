@@ -1,17 +1,17 @@
 //! The program `cam6_draw`: lines of replies on standard input, pictures on standard output.
 //!
-//! Contract: what the arguments ask for, and each end's exit status, are those of `cam6_show_words`.
+//! Contract: what the arguments ask for, and each end's exit status, are those of `cam6_draw_cli`.
 //! `refuse` of `cam6_arguments` ends for arguments that ask for nothing. The bytes of a picture are
 //! those of `Netpbm` and of `Terminal` in `cam6_show_pictures`. Which frames are shown, and how they
 //! end, is the contract of `show_frames` in `cam6_show_frames`.
 //!
-//! Stands on: `cam6_arguments`, `cam6_show_words`, `cam6_show_pictures`, `cam6_show_frames`.
+//! Stands on: `cam6_arguments`, `cam6_draw_cli`, `cam6_show_pictures`, `cam6_show_frames`.
 #![tactic(auto)]
 
 use cam6_arguments::{NO_MEMORY, Program, Refused, failed, refuse, words_given};
+use cam6_draw_cli::{DrawOptions, Way, ended, options_of_draw};
 use cam6_show_frames::show_frames;
 use cam6_show_pictures::{Netpbm, Terminal};
-use cam6_show_words::{DrawOptions, Way, ended, options_of_draw};
 use std::env::Env;
 use std::io;
 use std::io::BufReader;

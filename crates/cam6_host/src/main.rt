@@ -1,23 +1,23 @@
 //! The program `cam6`: command lines on standard input, or lines of events, one line of an answer
 //! for each on standard output; or command lines of many users over connections.
 //!
-//! Contract: `closed` and `ended` end with the exit statuses of `cam6_modes`, for a host that can't go
+//! Contract: `closed` and `ended` end with the exit statuses of `cam6_cli`, for a host that can't go
 //! on, and for each end of a session. `refuse` of `cam6_arguments` ends for arguments that ask for
-//! nothing. `cam6_modes` says what the arguments ask for, and what is written for what is read.
+//! nothing. `cam6_cli` says what the arguments ask for, and what is written for what is read.
 //! `cam6_server` says what `serve_net` writes to users over connections.
 //!
-//! Stands on: `cam6_modes` and `cam6_arguments`; `cam6_session`, `cam6_server` and `cam6_planes` for
+//! Stands on: `cam6_cli` and `cam6_arguments`; `cam6_session`, `cam6_server` and `cam6_planes` for
 //! what it hands on.
 //!
-//! Read next: `cam6_modes`.
+//! Read next: `cam6_cli`.
 #![tactic(auto)]
 
 ghost use Rattle.std.specs.Prelude.{◌≡◌, MatchOption};
 ghost use Rattle.std.specs.Process.{exit_status};
-ghost use Rattle.cam6_modes.specs.Statuses.{failure, fault as fault_told};
+ghost use Rattle.cam6_cli.specs.Statuses.{failure, fault as fault_told};
 
 use cam6_arguments::{NO_MEMORY, Program, Refused, failed, refuse, words_given};
-use cam6_modes::{Options, Sharing, failure_of, fault_of, options, replay_streams, serve_streams};
+use cam6_cli::{Options, Sharing, failure_of, fault_of, options, replay_streams, serve_streams};
 use cam6_planes::Side;
 use cam6_server::{Fault, Handle, Serving, serve_net};
 use cam6_session::End;

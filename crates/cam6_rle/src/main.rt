@@ -2,20 +2,20 @@
 //! such texts.
 //!
 //! Contract: what the arguments ask for, each end's exit status and the line for a text that isn't
-//! a pattern are those of `cam6_show_words`. `refuse` of `cam6_arguments` ends for arguments that ask
+//! a pattern are those of `cam6_draw_cli`. `refuse` of `cam6_arguments` ends for arguments that ask
 //! for nothing. Which lines set a pattern, and which text a frame has, is the contract of
 //! `read_pattern`, of `write_placed` and of `PatternTexts` in `cam6_patterns`. Which frames replies show, and how they end, is the contract of `show_frames` in `cam6_show_frames`.
 //!
-//! Stands on: `cam6_arguments`, `cam6_show_words`, `cam6_patterns`, `cam6_show_frames`.
+//! Stands on: `cam6_arguments`, `cam6_draw_cli`, `cam6_patterns`, `cam6_show_frames`.
 #![tactic(auto)]
 
 ghost use Rattle.std.specs.Prelude.{◌≡◌};
 ghost use Rattle.std.specs.Process.{exit_status};
 
 use cam6_arguments::{NO_MEMORY, Program, Refused, failed, refuse, words_given};
+use cam6_draw_cli::{BAD_INPUT, Place, RleOptions, ended, fault_text, options_of_rle};
 use cam6_patterns::{Pattern, PatternFault, PatternTexts, Unread, read_pattern, write_placed};
 use cam6_show_frames::{End, Unshown, show_frames};
-use cam6_show_words::{BAD_INPUT, Place, RleOptions, ended, fault_text, options_of_rle};
 use std::env::Env;
 use std::io;
 use std::io::{BufReader, ErrorKind, Read};

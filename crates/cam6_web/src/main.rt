@@ -1,7 +1,7 @@
 //! The program `cam6_web`: the page of a machine, for browsers on this machine, and a socket for each
 //! page.
 //!
-//! Contract: `closed` ends with the exit statuses of `cam6_web_words`, which says what the arguments
+//! Contract: `closed` ends with the exit statuses of `cam6_web_cli`, which says what the arguments
 //! ask for, and `refuse` of `cam6_arguments` ends for arguments that ask for nothing. `cam6_web_router`
 //! says what each request is answered, and `cam6_web_bridge` what is carried between a page and its
 //! host. The host is a machine in this process (`cam6_web_machine`) or is at the other end of a
@@ -12,7 +12,7 @@
 //! `links` bounds the time of each call: ten seconds for a request, a minute for a message that is
 //! sent, half a minute for silence.
 //!
-//! Stands on: `cam6_arguments`, `cam6_web_words`, `cam6_web_router`, `cam6_web_bridge`,
+//! Stands on: `cam6_arguments`, `cam6_web_cli`, `cam6_web_router`, `cam6_web_bridge`,
 //! `cam6_web_machine`; `cam6_planes`, for what it hands on.
 //!
 //! Read next: `visitors`, the counts of connections; `states`, what the threads share; `visits`, a
@@ -27,10 +27,10 @@ mod visits;
 
 ghost use Rattle.std.specs.Prelude.{◌≡◌};
 ghost use Rattle.std.specs.Process.{exit_status};
-ghost use Rattle.cam6_web_words.specs.Statuses.{fault as fault_told};
+ghost use Rattle.cam6_web_cli.specs.Statuses.{fault as fault_told};
 
 use cam6_arguments::{Program, Refused, failed, refuse, words_given};
-use cam6_web_words::{Fault, Options, fault_of, options_of_web};
+use cam6_web_cli::{Fault, Options, fault_of, options_of_web};
 use servers::serve_pages;
 use states::Handle;
 use std::env::Env;

@@ -3,8 +3,8 @@
 use crate::states::{Handle, ServerState};
 use crate::visitors::Visitors;
 use crate::visits::receive;
+use cam6_web_cli::{Fault, Options};
 use cam6_web_router::{Hosts, Names, Router};
-use cam6_web_words::{Fault, Options};
 use std::alloc::AllocError;
 use std::io::Error;
 use std::net::{Net, TcpListener, TcpStream};

@@ -1,7 +1,0 @@
-use Rattle.std.proofs.Common.{◌∙◌, arith}
-use Rattle.cam6_show_words.proofs.DrawValues.{window_is}
-use Rattle.cam6_show_words.proofs.draw_words.window_of.Goals as goal
-
-pub returns-then-words-eq4 : goal.returns-then-words-eq4
-returns-then-words-eq4 c =
-    c.window_said.ensures ∙ window_is c.args.words.now _ _ _ _ (omega arith)

@@ -1,0 +1,11 @@
+-- The exit status of a server that can't go on, with its text.
+use Rattle.std.specs.Prelude.{ℕ, List, codes}
+use Rattle.cam6_arguments.specs.Program.{told}
+use Rattle.cam6_arguments.specs.declared.programs.Program.TheVariants.{Web}
+use Rattle.cam6_web_cli.specs.declared.statuses.Fault.{Fault}
+use Rattle.cam6_web_cli.specs.declared.statuses.Fault.TheVariants as server
+
+-- `Network`: the server can't listen at its port, or can't accept a connection
+abbrev pub fault : Fault → ℕ × List ℕ
+fault server.NoMemory = (5, told Web (codes "no memory\n"))
+fault server.Network = (7, told Web (codes "network failed\n"))
