@@ -11,5 +11,5 @@ name_of Rle = codes "cam6_rle"
 name_of Web = codes "cam6_web"
 
 -- a text after the program's name
-abbrev pub told : Program → List ℕ → List ℕ
-told program text = name_of program ++ codes ": " ++ text
+abbrev pub message_of : Program → List ℕ → List ℕ
+message_of program text = name_of program ++ codes ": " ++ text

@@ -6,7 +6,7 @@ use Rattle.clap.specs.Words.{IsAmong, Kinds}
 use Rattle.clap.specs.declared.error.kind.ErrorKind.{ErrorKind}
 use Rattle.clap.specs.declared.error.kind.ErrorKind.TheVariants.{OutOfMemory, DisplayHelp}
 use Rattle.clap.specs.declared.error.kind.ErrorKind.TheVariants.{DisplayVersion}
-use Rattle.cam6_arguments.specs.Program.{told}
+use Rattle.cam6_arguments.specs.Program.{message_of}
 use Rattle.cam6_arguments.specs.declared.programs.Program.{Program}
 use Rattle.cam6_arguments.specs.declared.refusals.Refused.{Refused}
 use Rattle.cam6_arguments.specs.declared.refusals.Refused.TheVariants.{Help, Words, NoMemory}
@@ -66,11 +66,11 @@ abbrev pub IsUnreadable : Program → Refused → ReadKind → Type 0
 IsUnreadable program (Help text) kind = ⊥
 IsUnreadable program (Words text) kind =
     (kind ≢ read.OutOfMemory)
-    × (string_bytes text ≡ told program (codes "an argument is not UTF-8\n"))
+    × (string_bytes text ≡ message_of program (codes "an argument is not UTF-8\n"))
 IsUnreadable program NoMemory kind = ⊤
 
 -- the exit status, with the text; help succeeds
 abbrev pub refusal : Program → Refused → ℕ × List ℕ
 refusal program (Help text) = (0, string_bytes text)
 refusal program (Words text) = (2, string_bytes text)
-refusal program NoMemory = (5, told program (codes "no memory\n"))
+refusal program NoMemory = (5, message_of program (codes "no memory\n"))

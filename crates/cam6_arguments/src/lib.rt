@@ -23,7 +23,7 @@ mod values;
 
 pub use endings::{failed, refuse, words_given};
 pub use options::{MAX_PORT, named, number_option, side_option, value_option};
-pub use programs::{Program, told};
+pub use programs::{Program, message_of};
 pub use refusals::{Refused, refusal, refusal_of, refusal_of_kind, refusal_of_read, unasked};
 pub use statuses::{NETWORK_FAILED, NO_MEMORY, REFUSED_WORDS, WRITE_FAILED};
 pub use values::{count_of, number_at, number_by, number_of, side_at, text_at, texts_at};

@@ -1,6 +1,6 @@
 //! The four programs, and lines that begin with their names.
 ghost use Rattle.std.specs.Prelude.{◌≡◌, IfOk, codes, string_bytes};
-ghost use Rattle.cam6_arguments.specs.Program.{name_of, told};
+ghost use Rattle.cam6_arguments.specs.Program.{name_of, message_of};
 
 use std::alloc::{AllocError, Global};
 
@@ -32,7 +32,7 @@ impl Program {
 
     /// Returns the line that reports a failed allocation, with its LF.
     pub fn no_memory(self) -> &'static str
-        ensures { result.now ≡ told self (codes "no memory\n") }
+        ensures { result.now ≡ message_of self (codes "no memory\n") }
     {
         match self {
             Program::Cam6 => "cam6: no memory\n",
@@ -44,7 +44,7 @@ impl Program {
 
     /// Returns the line that reports a failed write, with its LF.
     pub fn write_failed(self) -> &'static str
-        ensures { result.now ≡ told self (codes "write failed\n") }
+        ensures { result.now ≡ message_of self (codes "write failed\n") }
     {
         match self {
             Program::Cam6 => "cam6: write failed\n",
@@ -56,7 +56,7 @@ impl Program {
 
     /// Returns the line, with its LF, if the line that says why can't be allocated.
     pub fn no_memory_to_say_why(self) -> &'static str
-        ensures { result.now ≡ told self (codes "no memory to say why\n") }
+        ensures { result.now ≡ message_of self (codes "no memory to say why\n") }
     {
         match self {
             Program::Cam6 => "cam6: no memory to say why\n",
@@ -68,8 +68,8 @@ impl Program {
 }
 
 /// Returns the program's name, a colon, a space and the text.
-pub fn told(alloc: Global, program: Program, text: &str) -> Result<String, AllocError>
-    ensures { IfOk result (λ line. string_bytes line ≡ told program text.now) }
+pub fn message_of(alloc: Global, program: Program, text: &str) -> Result<String, AllocError>
+    ensures { IfOk result (λ line. string_bytes line ≡ message_of program text.now) }
 {
     let name = program.name();
     format!(in alloc; "{name}: {text}")

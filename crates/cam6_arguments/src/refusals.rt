@@ -4,7 +4,7 @@ ghost use Rattle.clap.specs.Words.{kind_of};
 ghost use Rattle.cam6_arguments.specs.Refusals.{EndsWith, HasText, IsOfKind, IsRefusal, IsTold};
 ghost use Rattle.cam6_arguments.specs.Refusals.{IsUnreadable, refusal as refusal_told};
 
-use crate::programs::{Program, told};
+use crate::programs::{Program, message_of};
 use crate::statuses::{NO_MEMORY, REFUSED_WORDS};
 use clap::error::ErrorKind;
 use std::alloc::{AllocError, Global};
@@ -100,6 +100,6 @@ pub fn refusal_of_read(alloc: Global, program: Program, kind: io::ErrorKind) -> 
 {
     match kind {
         io::ErrorKind::OutOfMemory => Refused::NoMemory,
-        _ => unasked(told(alloc, program, "an argument is not UTF-8\n")),
+        _ => unasked(message_of(alloc, program, "an argument is not UTF-8\n")),
     }
 }

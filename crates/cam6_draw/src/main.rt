@@ -26,7 +26,7 @@ fn main(rt: HostRuntime) -> ExitCode {
 /// Reads the arguments, and does what they ask for.
 fn run<R: Env + Input + Print + Eprint + AllocGlobal + Clock>(rt: &R) -> ExitCode {
     match options_given(rt) {
-        Ok(options) => drawn(rt, &options),
+        Ok(options) => draw(rt, &options),
         Err(refused) => refuse(rt, Program::Draw, &refused),
     }
 }
@@ -38,7 +38,7 @@ fn options_given<R: Env + AllocGlobal>(rt: &R) -> Result<DrawOptions, Refused> {
 }
 
 /// Draws the frames of the lines on standard input.
-fn drawn<R: Input + Print + Eprint + AllocGlobal + Clock>(
+fn draw<R: Input + Print + Eprint + AllocGlobal + Clock>(
     rt: &R,
     options: &DrawOptions,
 ) -> ExitCode {

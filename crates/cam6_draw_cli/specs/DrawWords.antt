@@ -73,8 +73,8 @@ palette_by None = Some default_palette
 palette_by (Some word) = palette_said word
 
 -- a column, a row, a width and a height
-abbrev pub window_said : Text → Text → Text → Text → Option Window
-window_said x y w h = do
+abbrev pub window_asked_for : Text → Text → Text → Text → Option Window
+window_asked_for x y w h = do
   column ← number_said 0 (max_columns - 1) x
   row ← number_said 0 (max_columns - 1) y
   width ← number_said 1 max_columns w
@@ -83,7 +83,7 @@ window_said x y w h = do
 
 abbrev pub window_of : List Text → Option Window
 window_of words = if length words == 4
-    then window_said (get_or words 0 []) (get_or words 1 []) (get_or words 2 []) (get_or words 3 [])
+    then window_asked_for (get_or words 0 []) (get_or words 1 []) (get_or words 2 []) (get_or words 3 [])
     else None
 
 -- the part that is said, or else none, for the whole torus

@@ -1,7 +1,7 @@
 -- The exit status of each end, with its line.
 use Rattle.std.specs.Prelude.{ℕ, List, ◌++◌, Option, None, Some, codes, decimal}
 use Rattle.cam6_planes.specs.Limits.{max_columns}
-use Rattle.cam6_arguments.specs.Program.{name_of, told}
+use Rattle.cam6_arguments.specs.Program.{name_of, message_of}
 use Rattle.cam6_arguments.specs.declared.programs.Program.{Program}
 use Rattle.cam6_arguments.specs.declared.programs.Program.TheVariants.{Rle}
 use Rattle.cam6_show_frames.specs.declared.showing.End.{End}

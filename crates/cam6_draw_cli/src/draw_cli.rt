@@ -12,7 +12,7 @@ ghost use Rattle.cam6_draw_cli.specs.DrawWords.{asked as asked_by, crop_option a
 ghost use Rattle.cam6_draw_cli.specs.DrawWords.{flag as flag_of, is_true as is_true_told};
 ghost use Rattle.cam6_draw_cli.specs.DrawWords.{palette_by as palette_told, program as program_of};
 ghost use Rattle.cam6_draw_cli.specs.DrawWords.{scale_by as scale_told, way_at, way_said};
-ghost use Rattle.cam6_draw_cli.specs.DrawWords.{window_by as window_told, window_said};
+ghost use Rattle.cam6_draw_cli.specs.DrawWords.{window_by as window_told, window_asked_for};
 ghost use Rattle.cam6_draw_cli.specs.DrawWords.{window_of as window_of_words};
 
 use crate::draw_options::{DrawOptions, Unsaid, Way};
@@ -201,15 +201,15 @@ fn window_of(words: &[&str]) -> Option<Window>
     ensures { result ≡ window_of_words (texts words.now) }
 {
     if words.len() == 4 {
-        window_said(words[0], words[1], words[2], words[3])
+        window_asked_for(words[0], words[1], words[2], words[3])
     } else {
         None
     }
 }
 
 /// The part that four words say, or `None` if one of them is no number within its bounds.
-fn window_said(x: &str, y: &str, w: &str, h: &str) -> Option<Window>
-    ensures { result ≡ window_said x.now y.now w.now h.now }
+fn window_asked_for(x: &str, y: &str, w: &str, h: &str) -> Option<Window>
+    ensures { result ≡ window_asked_for x.now y.now w.now h.now }
 {
     let Some(column) = count_of(x, 0, COLUMNS - 1) else {
         return None;

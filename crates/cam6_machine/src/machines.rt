@@ -75,7 +75,7 @@ impl Machine {
     }
 
     /// Takes the machine apart: what it keeps, its image and the spare one.
-    pub fn part(self) -> (Kept, AtRest, Spare)
+    pub fn into_parts(self) -> (Kept, AtRest, Spare)
         ensures kept { result.0 ≡ self.kept }
         ensures image { result.1.planes ≡ self.planes }
         ensures limit { result.1.planes.limit ≡ self.kept.limit }

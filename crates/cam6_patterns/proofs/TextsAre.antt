@@ -9,7 +9,7 @@ use Rattle.cam6_show_frames.specs.Lines.{lines}
 use Rattle.cam6_patterns.specs.Pattern.{Pattern, IsPattern, most_cells, most_states}
 use Rattle.cam6_patterns.specs.Faults.{fault}
 use Rattle.cam6_patterns.specs.Header.{if_none, number_at_front, offset_at_front, corner_at_front}
-use Rattle.cam6_patterns.specs.Header.{after, after_first, corner_in, extents_in, past_blanks}
+use Rattle.cam6_patterns.specs.Header.{strip_prefix, after_first, corner_in, extents_in, past_blanks}
 use Rattle.cam6_patterns.specs.Body.{Bounds, Step, more, over, nothing_read, whole_line_read}
 use Rattle.cam6_patterns.specs.Reading.{Stage, before, within, done, box, on_header, on_head}
 use Rattle.cam6_patterns.specs.Reading.{with_rows, on_body, on_line, at_end, and_later, lines_read}
@@ -63,11 +63,11 @@ corner_fits : (between : ℕ) (bytes : List ℕ) → Where IsCorner (corner_at_f
 corner_fits between bytes =
     where_then IsOffset IsCorner
     (λ column. option_map (λ row. (column.0, row.0))
-    (option_and_then offset_at_front (after (between ∷ []) column.1)))
+    (option_and_then offset_at_front (strip_prefix (between ∷ []) column.1)))
     (offset_at_front bytes) (offset_fits bytes)
-    (λ column first. second column first (option_and_then offset_at_front (after (between ∷ []) column.1))
-    (where_then (λ _. Unit {0}) IsOffset offset_at_front (after (between ∷ []) column.1)
-    (anything (after (between ∷ []) column.1)) (λ rest _. offset_fits rest)))
+    (λ column first. second column first (option_and_then offset_at_front (strip_prefix (between ∷ []) column.1))
+    (where_then (λ _. Unit {0}) IsOffset offset_at_front (strip_prefix (between ∷ []) column.1)
+    (anything (strip_prefix (between ∷ []) column.1)) (λ rest _. offset_fits rest)))
   where
     anything : (o : Option (List ℕ)) → Where (λ _. Unit {0}) o
     anything None = tt
@@ -85,9 +85,9 @@ behind_fits between (Some rest) = corner_fits between rest
 
 remark_fits : (line : List ℕ) → Where IsCorner (corner_in line)
 remark_fits line =
-    where_either IsCorner _ _ (position (after (codes "#CXRLE ") line))
-    (where_either IsCorner _ _ (behind_fits 32 (after (codes "#P ") line))
-    (behind_fits 32 (after (codes "#R ") line)))
+    where_either IsCorner _ _ (position (strip_prefix (codes "#CXRLE ") line))
+    (where_either IsCorner _ _ (behind_fits 32 (strip_prefix (codes "#P ") line))
+    (behind_fits 32 (strip_prefix (codes "#R ") line)))
   where
     position : (o : Option (List ℕ)) → Where IsCorner (option_and_then
         (λ rest. option_and_then (corner_at_front 44) (after_first (codes "Pos=") rest)) o)

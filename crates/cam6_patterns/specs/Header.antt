@@ -34,14 +34,14 @@ number_at_front (b ∷ bytes) =
     if is_decimal b then Some (number_behind (b - 48) bytes) else None
 
 -- what comes after the first bytes, if the others begin with them
-abbrev pub after : List ℕ → List ℕ → Option (List ℕ)
-after [] bytes = Some bytes
-after (x ∷ xs) [] = None
-after (x ∷ xs) (b ∷ bytes) = if x == b then after xs bytes else None
+abbrev pub strip_prefix : List ℕ → List ℕ → Option (List ℕ)
+strip_prefix [] bytes = Some bytes
+strip_prefix (x ∷ xs) [] = None
+strip_prefix (x ∷ xs) (b ∷ bytes) = if x == b then strip_prefix xs bytes else None
 
 -- what comes after blanks and then this byte
 abbrev pub after_sign : ℕ → List ℕ → Option (List ℕ)
-after_sign x bytes = after (x ∷ []) (past_blanks bytes)
+after_sign x bytes = strip_prefix (x ∷ []) (past_blanks bytes)
 
 -- the number after a letter and an equals sign, with blanks between, as in "x = 12"; and what comes
 -- after it
@@ -77,18 +77,18 @@ abbrev pub corner_at_front : ℕ → List ℕ → Option (ℕ × ℕ)
 corner_at_front between bytes =
     option_and_then
     (λ column. option_map (λ row. (column.0, row.0))
-    (option_and_then offset_at_front (after (between ∷ []) column.1)))
+    (option_and_then offset_at_front (strip_prefix (between ∷ []) column.1)))
     (offset_at_front bytes)
 
 -- what comes after the first place where these bytes stand
 abbrev pub after_first : List ℕ → List ℕ → Option (List ℕ)
 after_first xs [] = None
-after_first xs (b ∷ bytes) = if_none (after xs (b ∷ bytes)) (after_first xs bytes)
+after_first xs (b ∷ bytes) = if_none (strip_prefix xs (b ∷ bytes)) (after_first xs bytes)
 
 -- where a remark says that the pattern lies, if it does: "#CXRLE Pos=-3,4", "#P -3 4" or "#R -3 4"
 abbrev pub corner_in : List ℕ → Option (ℕ × ℕ)
 corner_in line =
     if_none (option_and_then (λ rest. option_and_then (corner_at_front 44) (after_first (codes "Pos=") rest))
-    (after (codes "#CXRLE ") line))
-    (if_none (option_and_then (corner_at_front 32) (after (codes "#P ") line))
-    (option_and_then (corner_at_front 32) (after (codes "#R ") line)))
+    (strip_prefix (codes "#CXRLE ") line))
+    (if_none (option_and_then (corner_at_front 32) (strip_prefix (codes "#P ") line))
+    (option_and_then (corner_at_front 32) (strip_prefix (codes "#R ") line)))

@@ -4,7 +4,7 @@ ghost use Rattle.std.specs.Prelude.{codes};
 ghost use Rattle.cam6_patterns.specs.Pattern.{most_cells};
 ghost use Rattle.cam6_patterns.specs.Header.{is_blank, is_decimal, past_blanks, number_at_front};
 ghost use Rattle.cam6_patterns.specs.Header.{number_behind};
-ghost use Rattle.cam6_patterns.specs.Header.{after, after_sign, extent_at_front, ends_header};
+ghost use Rattle.cam6_patterns.specs.Header.{strip_prefix, after_sign, extent_at_front, ends_header};
 ghost use Rattle.cam6_patterns.specs.Header.{extents_in, offset_at_front, corner_at_front};
 ghost use Rattle.cam6_patterns.specs.Header.{after_first, corner_in, if_none};
 ghost use Rattle.cam6_patterns.specs.Reading.{box, on_head, on_header};
@@ -199,9 +199,9 @@ fn lowered(number: usize) -> usize
 }
 
 /// What comes after `first`, if the bytes begin with it.
-fn after<'a>(first: &[u8], bytes: &'a [u8]) -> Option<&'a [u8]>
-    ensures { MatchOption result (after first.now bytes.now ≡ None)
-        (λ r. after first.now bytes.now ≡ Some r.now) }
+fn strip_prefix<'a>(first: &[u8], bytes: &'a [u8]) -> Option<&'a [u8]>
+    ensures { MatchOption result (strip_prefix first.now bytes.now ≡ None)
+        (λ r. strip_prefix first.now bytes.now ≡ Some r.now) }
 {
     let mut wanted = first;
     let mut rest = bytes;
@@ -221,7 +221,7 @@ fn after_sign(sign: u8, bytes: &[u8]) -> Option<&[u8]>
     ensures { MatchOption result (after_sign sign bytes.now ≡ None)
         (λ r. after_sign sign bytes.now ≡ Some r.now) }
 {
-    after(&[sign], past_blanks(bytes))
+    strip_prefix(&[sign], past_blanks(bytes))
 }
 
 /// The number after a letter and an equals sign, with blanks between, and what comes after it.
@@ -280,7 +280,7 @@ fn corner_at_front(between: u8, bytes: &[u8]) -> Option<(usize, usize)>
     ensures { result ≡ corner_at_front between bytes.now }
 {
     let (column, rest) = offset_at_front(bytes)?;
-    let rest = after(&[between], rest)?;
+    let rest = strip_prefix(&[between], rest)?;
     let (row, _) = offset_at_front(rest)?;
     Some((column, row))
 }
@@ -292,7 +292,7 @@ fn after_first<'a>(wanted: &[u8], bytes: &'a [u8]) -> Option<&'a [u8]>
 {
     let mut rest = bytes;
     while let Some((_, later)) = rest.split_first() {
-        if let Some(found) = after(wanted, rest) {
+        if let Some(found) = strip_prefix(wanted, rest) {
             return Some(found);
         }
         rest = later;
@@ -313,15 +313,15 @@ fn corner_of_position(line: &[u8]) -> Option<(usize, usize)>
     ensures { result
         ≡ option_and_then
         (λ rest. option_and_then (corner_at_front 44) (after_first (codes "Pos=") rest))
-        (after (codes "#CXRLE ") line.now) }
+        (strip_prefix (codes "#CXRLE ") line.now) }
 {
-    let rest = after(b"#CXRLE ", line)?;
+    let rest = strip_prefix(b"#CXRLE ", line)?;
     corner_at_front(b',', after_first(b"Pos=", rest)?)
 }
 
 /// The corner after these bytes, with a space between its numbers.
 fn corner_after(first: &[u8], line: &[u8]) -> Option<(usize, usize)>
-    ensures { result ≡ option_and_then (corner_at_front 32) (after first.now line.now) }
+    ensures { result ≡ option_and_then (corner_at_front 32) (strip_prefix first.now line.now) }
 {
-    corner_at_front(b' ', after(first, line)?)
+    corner_at_front(b' ', strip_prefix(first, line)?)
 }

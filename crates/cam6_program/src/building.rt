@@ -45,7 +45,7 @@ impl Diagram {
             nodes[k] = Node::lowest_bit(entry);
             nodes[ENTRIES + k] = Node::lowest_bit(entry >> 1);
         }
-        let mut diagram = Diagram::after(0);
+        let mut diagram = Diagram::with_counters(0);
         for level in 0..LINES {
             let by = Node::line(order.line(level));
             diagram.join_pairs(by, &mut nodes[..2 * ENTRIES >> level])?;
@@ -55,7 +55,7 @@ impl Diagram {
     }
 
     /// A diagram with no choice yet but the lines, after operations that count lines.
-    pub(crate) fn after(counters: usize) -> Diagram
+    pub(crate) fn with_counters(counters: usize) -> Diagram
         requires { LINES + counters ≤ PLACES }
         ensures { result.count ≤ PLACES }
     {

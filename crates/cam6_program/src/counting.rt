@@ -112,7 +112,7 @@ pub(crate) fn counting(entries: &[u8]) -> Result<Diagram, TooLong>
         nodes[k] = Node::lowest_bit(entry);
         nodes[COUNTED + k] = Node::lowest_bit(entry >> 1);
     }
-    let mut diagram = Diagram::after(COUNTERS);
+    let mut diagram = Diagram::with_counters(COUNTERS);
     for level in 0..8 {
         diagram.join_pairs(chosen_by(level), &mut nodes[..2 * COUNTED >> level])?;
     }

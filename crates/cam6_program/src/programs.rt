@@ -153,7 +153,7 @@ impl Program {
             column_bit upper.new c ≡ bit_by Upper self.now bits }
     {
         let steps = &self.steps[..self.count];
-        if let Some(last) = self.last() {
+        if let Some(last) = self.last_step() {
             let steps = &steps[..steps.len() - 1];
             take_steps(lower, steps, Some(last), lines, &mut slots.units, words);
             put_given(upper, self.upper, lines, &slots.units[..0]);
@@ -166,7 +166,7 @@ impl Program {
     }
 
     /// The last step, if only the lower level is read from slots, and from the one that it writes.
-    fn last(&self) -> Option<Step>
+    fn last_step(&self) -> Option<Step>
         ensures lower { IfSome result (λ last. self.now.lower ≡ Some (Slot last.into)) }
         ensures upper { IfSome result (λ last. ReadsNoSlot self.now.upper) }
         ensures steps { IfSome result (λ last. self.now.steps ≡

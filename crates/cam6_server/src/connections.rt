@@ -90,14 +90,14 @@ fn answerable(alloc: Global, line: &LineBuf) -> Result<Result<u64, LineFault>, E
     ensures said { (l : List ℕ) → Holds line.now l → Tells result l }
     ensures memory { result ≢ Ok (Err LineFault.NoMemory) }
 {
-    match said(alloc, line) {
+    match read_request(alloc, line) {
         Err(LineFault::NoMemory) => Err(End::NoMemory { done: false }),
         said => Ok(said),
     }
 }
 
 /// Returns the number of the seat that a line asks for, or the line's fault.
-fn said(alloc: Global, line: &LineBuf) -> Result<u64, LineFault>
+fn read_request(alloc: Global, line: &LineBuf) -> Result<u64, LineFault>
     ensures said { (l : List ℕ) → Holds line.now l → IsSaid result (seat l) }
     ensures memory { result ≡ Err LineFault.NoMemory →
         (l : List ℕ) → Holds line.now l → TakesMemory l }

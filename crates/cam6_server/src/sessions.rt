@@ -48,7 +48,7 @@ fn visit<'a, R: Handle>(server: &'a ServerState<R>, stream: &'a TcpStream) -> io
     let visit = serve_connection(&server.host, &link)?;
     if leaves_lines(visit) {
         // The connection is closed next, so a failure here changes nothing.
-        let _ = link.part();
+        let _ = link.shut_down();
     } else {
         link.release();
     }

@@ -3,7 +3,7 @@
 use crate::guests::Standing;
 use crate::outboxes::Outbox;
 use crate::states::{Handle, ServerState};
-use crate::terms::{Terms, after, left_until};
+use crate::terms::{Terms, deadline_in, time_left};
 use std::alloc::Global;
 use std::cell::RefCell;
 use std::io;
@@ -49,23 +49,23 @@ struct Socket<'a, R: Handle> {
 
 impl<R: Handle> Socket<'_, R> {
     /// Whether a write with this fault is made again. It is if it was interrupted, or if it has
-    /// waited and `until` isn't over.
-    fn goes_on(&self, fault: &Error, until: Instant) -> bool {
+    /// waited and `deadline` isn't over.
+    fn goes_on(&self, fault: &Error, deadline: Instant) -> bool {
         match fault.kind() {
             ErrorKind::Interrupted => true,
-            ErrorKind::WouldBlock => left_until(self.clock, until).is_ok(),
+            ErrorKind::WouldBlock => time_left(self.clock, deadline).is_ok(),
             _ => false,
         }
     }
 
     /// Reads and drops bytes until the client has shut its sending side, or has sent 1 MiB. Fails
     /// if a read fails, or if the time is over before that.
-    fn drain(mut self, until: Instant) -> io::Result<()> {
+    fn drain(mut self, deadline: Instant) -> io::Result<()> {
         let mut bytes = [0; 4_096];
         let mut drained = 0;
         while drained < DRAINED {
             self.stream
-                .set_read_timeout(Some(left_until(self.clock, until)?))?;
+                .set_read_timeout(Some(time_left(self.clock, deadline)?))?;
             match self.read(&mut bytes)? {
                 0 => break,
                 count => drained += count,
@@ -94,10 +94,10 @@ impl<R: Handle> Write for Socket<'_, R> {
     /// minute, or after 1,000 tries.
     fn write(&mut self, bytes: &[u8]) -> io::Result<usize> {
         let mut stream = self.stream;
-        let until = after(self.clock, SEND_SECONDS)?;
+        let deadline = deadline_in(self.clock, SEND_SECONDS)?;
         for _ in 0..TRIES {
             match stream.write(bytes) {
-                Err(fault) if self.goes_on(&fault, until) => {}
+                Err(fault) if self.goes_on(&fault, deadline) => {}
                 written => return written,
             }
         }
@@ -157,11 +157,11 @@ impl<'a, R: Handle> Link<'a, R> {
     /// Sends what is held back, shuts the sending side, and drops what the client still sends for a
     /// while. A socket that is closed with unread bytes resets the connection, and the client may
     /// lose its last answer.
-    pub fn part(&self) -> io::Result<()> {
+    pub fn shut_down(&self) -> io::Result<()> {
         self.send()?;
         self.socket.stream.shutdown(Shutdown::Write)?;
-        let until = after(self.socket.clock, DRAIN_SECONDS)?;
-        self.socket.drain(until)
+        let deadline = deadline_in(self.socket.clock, DRAIN_SECONDS)?;
+        self.socket.drain(deadline)
     }
 }
 

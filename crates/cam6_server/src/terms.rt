@@ -22,7 +22,7 @@ pub struct Terms<'a, R: Handle> {
     idle: Option<Duration>,
     standing: Cell<Standing>,
     /// When the wait for a seat is over.
-    until: Instant,
+    deadline: Instant,
     /// How many bytes have been read.
     came: Cell<usize>,
     /// Whether the socket has the timeout of a client with a seat.
@@ -38,7 +38,7 @@ impl<'a, R: Handle> Terms<'a, R> {
             guests: &server.guests,
             idle: server.idle,
             standing: Cell::new(Standing::Waiting),
-            until: after(&rt, SEAT_SECONDS)?,
+            deadline: deadline_in(&rt, SEAT_SECONDS)?,
             came: Cell::new(0),
             is_told: Cell::new(false),
         })
@@ -66,7 +66,7 @@ impl<'a, R: Handle> Terms<'a, R> {
         if self.standing.get() == Standing::Waiting && self.came.get() > LINE_LIMIT {
             self.lengthen()?;
         }
-        stream.set_read_timeout(Some(left_until(&self.rt, self.until)?))
+        stream.set_read_timeout(Some(time_left(&self.rt, self.deadline)?))
     }
 
     /// The same for a client with a seat. The timeout is set once.
@@ -94,16 +94,16 @@ impl<'a, R: Handle> Terms<'a, R> {
 }
 
 /// So many seconds from now.
-pub fn after(clock: &impl Clock, seconds: u64) -> io::Result<Instant> {
+pub fn deadline_in(clock: &impl Clock, seconds: u64) -> io::Result<Instant> {
     match Instant::now(clock)?.checked_add(Duration::from_secs(seconds)) {
-        Some(until) => Ok(until),
+        Some(deadline) => Ok(deadline),
         None => Err(Error::from(ErrorKind::TimedOut)),
     }
 }
 
-/// The time until `until`. Fails with `TimedOut` if none is left.
-pub fn left_until(clock: &impl Clock, until: Instant) -> io::Result<Duration> {
-    let left = until.saturating_duration_since(Instant::now(clock)?);
+/// The time until `deadline`. Fails with `TimedOut` if none is left.
+pub fn time_left(clock: &impl Clock, deadline: Instant) -> io::Result<Duration> {
+    let left = deadline.saturating_duration_since(Instant::now(clock)?);
     if left.is_zero() {
         return Err(Error::from(ErrorKind::TimedOut));
     }

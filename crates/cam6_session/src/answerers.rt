@@ -84,7 +84,7 @@ impl<D: Ask> Answerer for D {
             (W.contents writer.old) (W.contents writer.new)
             (D.stands_at self.old) (D.stands_at self.new) }
     {
-        match said(alloc, line) {
+        match read_request(alloc, line) {
             Ok(command) => respond_to(alloc, command, writer, self),
             Err(fault) => respond_fault(fault, writer),
         }
@@ -92,7 +92,7 @@ impl<D: Ask> Answerer for D {
 }
 
 /// Returns the command that a line says, or the line's fault.
-fn said(alloc: Global, line: &LineBuf) -> Result<Command, LineFault>
+fn read_request(alloc: Global, line: &LineBuf) -> Result<Command, LineFault>
     ensures said { (l : List ℕ) → Holds line.now l → IsSaid result (what_is_said l) }
     ensures memory { (l : List ℕ) → Holds line.now l → result ≡ Err NoMemory → TakesMemory l }
 {

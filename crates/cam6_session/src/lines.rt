@@ -106,7 +106,7 @@ fn read_line<R: BufRead>(
                 }
             }
             Part::Newline => return Line::Ended,
-            Part::AtEnd => return last(line),
+            Part::AtEnd => return at_end_of_input(line),
             Part::Fault => return Line::ReadFault,
             Part::NoMemory => return Line::NoMemory,
         }
@@ -115,7 +115,7 @@ fn read_line<R: BufRead>(
 }
 
 /// How reading a line ends at the end of the input.
-fn last(line: &LineBuf) -> Line
+fn at_end_of_input(line: &LineBuf) -> Line
     ensures { result ≡ (if is_empty line.now then Line.EndOfInput else Line.Last) }
 {
     if line.is_empty() {

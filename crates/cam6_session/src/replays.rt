@@ -76,7 +76,7 @@ impl Answerer for Core {
         ensures responds { (l : List ℕ) → Holds line.now l → Responds by_core result l
             (W.contents writer.old) (W.contents writer.new) self.old self.new }
     {
-        match said(alloc, line) {
+        match read_request(alloc, line) {
             Ok(event) => respond_to(alloc, event, writer, self),
             Err(fault) => respond_fault(fault, writer),
         }
@@ -84,7 +84,7 @@ impl Answerer for Core {
 }
 
 /// Returns the event that a line says, or the line's fault.
-fn said(alloc: Global, line: &LineBuf) -> Result<Event, LineFault>
+fn read_request(alloc: Global, line: &LineBuf) -> Result<Event, LineFault>
     ensures said { (l : List ℕ) → Holds line.now l → IsSaid result (what_happens l) }
     ensures memory { (l : List ℕ) → Holds line.now l → result ≡ Err NoMemory → TakesMemory l }
 {

@@ -43,11 +43,11 @@ pub fn read_reply(alloc: Global, line: &[u8]) -> Result<Said, Unsaid>
     ensures memory { result ≡ Err NoMemory → 0 < length line.now }
 {
     let value = line_value(alloc, line)?;
-    reply_said(alloc, &value)
+    parse_reply(alloc, &value)
 }
 
 /// What a value says, if it is a reply.
-fn reply_said(alloc: Global, value: &Value) -> Result<Said, Unsaid>
+fn parse_reply(alloc: Global, value: &Value) -> Result<Said, Unsaid>
     ensures said { IfOk result (λ reply. said_in (view value.now) ≡ Some reply) }
     ensures no_reply { result ≡ Err NoReply → said_in (view value.now) ≡ None }
 {

@@ -104,7 +104,7 @@ impl Resting {
         let Resting { machine } = self;
         // `limit` gives the proof the machine's invariant.
         let _limit = machine.limit();
-        let (kept, home, spare) = machine.part();
+        let (kept, home, spare) = machine.into_parts();
         let work = Work::begin(kept, direction, steps, home);
         Queued::new(work, Parked::Spare(spare))
     }

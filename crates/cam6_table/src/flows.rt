@@ -26,13 +26,13 @@ pub struct Places {
     pub tops: LaneValues,
 }
 
-/// Lanes that go on together, and how many instructions are left to them. They go on until `until`
+/// Lanes that go on together, and how many instructions are left to them. They go on until `stops_at`
 /// instructions are left, where others wait.
 #[derive(Drop)]
 pub struct Flow {
     pub set: LaneSet,
     pub behind: usize,
-    pub until: usize,
+    pub stops_at: usize,
     pub span: Span,
     /// Whether lanes left it after its span was made. If so, those that are left may have more
     /// values and more room than the span says.
@@ -53,9 +53,9 @@ pub fn all_at_start(code: &Instructions) -> Places
 }
 
 /// Makes a flow of the lanes of a set, with `behind` instructions left to them. It goes on until
-/// `until` are left. Their stacks end at the row of the lanes at work.
+/// `stops_at` are left. Their stacks end at the row of the lanes at work.
 #[inline(always)]
-pub fn flow_of(set: LaneMask, behind: usize, until: usize, lanes: &Lanes) -> Flow
+pub fn flow_of(set: LaneMask, behind: usize, stops_at: usize, lanes: &Lanes) -> Flow
     requires limit { lanes.now.stacks.len ≤ ROWS }
     ensures left { (addresses : List ℕ) (code : List Instruction) (places : Places) →
         AreLeftAt addresses code set behind places lanes.now →
@@ -65,18 +65,18 @@ pub fn flow_of(set: LaneMask, behind: usize, until: usize, lanes: &Lanes) -> Flo
         span: span_of(&lanes.floors, &set, lanes.stacks.len),
         set: LaneSet::of(set),
         behind,
-        until,
+        stops_at,
         was_parted: false,
     }
 }
 
-/// Makes a flow of the lanes that wait at a place. It goes on until `until` instructions are left.
+/// Makes a flow of the lanes that wait at a place. It goes on until `stops_at` instructions are left.
 /// The stacks of the lanes at work end at the row of that place then.
 #[inline(always)]
 pub fn resume(
     code: &Instructions,
     waiting: LanesWaiting,
-    until: usize,
+    stops_at: usize,
     places: &Places,
     lanes: &mut Lanes,
 ) -> Flow
@@ -87,7 +87,7 @@ pub fn resume(
     let those = others_at(&in_all(0), places, waiting.behind, top);
     lanes.stacks.len = usize::from(top);
     let behind = usize::from(waiting.behind).min(code.len());
-    flow_of(those, behind, until, lanes)
+    flow_of(those, behind, stops_at, lanes)
 }
 
 /// Returns `IN` for a lane that waits at the place and is not in the other set, and 0 for any other
@@ -168,7 +168,7 @@ pub fn part_at_if(
         return Ok(());
     }
     let top = lanes.stacks.at_depth(1);
-    let parts = flow.set.parted(top);
+    let parts = flow.set.split(top);
     lanes.stacks.len -= 1;
     if parts.some_zeros == 0 {
         flow.behind = behind;
@@ -222,7 +222,7 @@ fn go_apart(
         flow.set = set;
         flow.span = span;
         flow.was_parted = true;
-        flow.until = flow.until.max(target);
+        flow.stops_at = flow.stops_at.max(target);
         return;
     }
     if lanes.stacks.len != there {
@@ -278,7 +278,7 @@ pub fn part_at_case(
         is_all: false,
     };
     flow.behind = 0;
-    flow.until = 0;
+    flow.stops_at = 0;
     Ok(())
 }
 

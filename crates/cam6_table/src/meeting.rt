@@ -78,7 +78,7 @@ fn exchange(
 {
     wait(places, &flow.set.mask, flow.behind, lanes.stacks.len);
     queue.put(waiting_at(flow.behind, lanes.stacks.len));
-    *flow = resume(code, next, queue.until(), places, lanes);
+    *flow = resume(code, next, queue.next_remaining(), places, lanes);
 }
 
 /// A flow comes to a place where others wait, and takes them along.
@@ -105,7 +105,7 @@ fn meet(
     let top = level(&flow.set.mask, &those, lanes.stacks.len, there, lanes);
     lanes.stacks.len = top;
     let both = put_in(&flow.set.mask, IN, &those);
-    *flow = flow_of(both, flow.behind, queue.until(), lanes);
+    *flow = flow_of(both, flow.behind, queue.next_remaining(), lanes);
 }
 
 /// Tries what may help after an instruction that can't be done in all lanes of a flow. Makes its
@@ -122,12 +122,12 @@ fn settle(flow: &mut Flow, lanes: &mut Lanes) -> bool
     let top = lanes.stacks.len;
     let span = span_of(&lanes.floors, &flow.set.mask, top);
     if flow.was_parted && span != flow.span {
-        *flow = flow_of(flow.set.mask, flow.behind, flow.until, lanes);
+        *flow = flow_of(flow.set.mask, flow.behind, flow.stops_at, lanes);
         return true;
     }
     if span.bottom < span.floor && top < span.floor + READ {
         dig(&flow.set.mask, top.saturating_sub(DUG), lanes);
-        *flow = flow_of(flow.set.mask, flow.behind, flow.until, lanes);
+        *flow = flow_of(flow.set.mask, flow.behind, flow.stops_at, lanes);
         return true;
     }
     make_room(flow, lanes)
@@ -151,6 +151,6 @@ fn make_room(flow: &mut Flow, lanes: &mut Lanes) -> bool
     let by = usize::from(least_in(&flow.set.mask, &lanes.floors.widths)).min(top);
     lower(&flow.set.mask, top, top - by, lanes);
     lanes.stacks.len = top - by;
-    *flow = flow_of(flow.set.mask, flow.behind, flow.until, lanes);
+    *flow = flow_of(flow.set.mask, flow.behind, flow.stops_at, lanes);
     by > 0
 }

@@ -48,7 +48,7 @@ impl LaneSet {
 
     /// Parts the set by where the value is 0.
     #[inline(always)]
-    pub fn parted(&self, values: &LaneValues) -> Parts
+    pub fn split(&self, values: &LaneValues) -> Parts
         ensures zeros { (lane : ℕ) → lane < LANES → slice_index result.zeros lane ≡
             (if slice_index values.now lane == 0 then slice_index self.now.mask lane else 0) }
         ensures others { (lane : ℕ) → lane < LANES → slice_index result.others lane ≡
@@ -59,9 +59,9 @@ impl LaneSet {
             (lane : ℕ) → lane < LANES → slice_index result.others lane ≡ 0 }
     {
         if self.is_all {
-            parted(&in_all(IN), values)
+            split(&in_all(IN), values)
         } else {
-            parted(&self.mask, values)
+            split(&self.mask, values)
         }
     }
 }
@@ -295,7 +295,7 @@ pub struct Parts {
 
 /// Parts a set by where the value is 0.
 #[inline(always)]
-fn parted(set: &LaneMask, values: &LaneValues) -> Parts
+fn split(set: &LaneMask, values: &LaneValues) -> Parts
     ensures zeros { (lane : ℕ) → lane < LANES → slice_index result.zeros lane ≡
         (if slice_index values.now lane == 0 then slice_index set.now lane else 0) }
     ensures others { (lane : ℕ) → lane < LANES → slice_index result.others lane ≡

@@ -14,7 +14,7 @@ use crate::sets::{LaneSet, limited};
 use crate::spans::Span;
 use cam6_forth::StackWord;
 
-/// Does instructions until at most `until` are left, up to one at which lanes can part or which
+/// Does instructions until at most `stops_at` are left, up to one at which lanes can part or which
 /// can't be done in all of them. Returns how many are left.
 #[inline(always)]
 pub fn run_straight(
@@ -22,7 +22,7 @@ pub fn run_straight(
     addresses: &LaneValues,
     set: &LaneSet,
     from: usize,
-    until: usize,
+    stops_at: usize,
     span: &mut Span,
     lanes: &mut Lanes,
 ) -> usize
@@ -38,7 +38,7 @@ pub fn run_straight(
     ensures left { GoOn addresses.now code.now set.now.mask from lanes.old result lanes.new }
 {
     let mut behind = from;
-    while behind > until {
+    while behind > stops_at {
         match step(code.before(behind - 1), addresses, set, span, lanes) {
             Ok(passed) => behind = (behind - 1).saturating_sub(passed),
             Err(Apart) => return behind,

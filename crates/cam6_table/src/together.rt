@@ -82,7 +82,7 @@ fn run_flow(
     requires left { AreLeftWith addresses.now code.now flow.old places.old lanes.old }
     ensures left { AreLeftWith addresses.now code.now flow.new places.new lanes.new }
 {
-    while flow.behind > flow.until && *steps > 0 {
+    while flow.behind > flow.stops_at && *steps > 0 {
         let from = flow.behind;
         advance(code, addresses, flow, queue, places, lanes)?;
         *steps = steps.saturating_sub(from - flow.behind);
@@ -102,16 +102,16 @@ fn advance(
     lanes: &mut Lanes,
 ) -> Result<(), Apart>
     requires code { length code.now ≤ max_eval_steps }
-    requires some { flow.old.until < flow.old.behind }
+    requires some { flow.old.stops_at < flow.old.behind }
     requires left { AreLeftWith addresses.now code.now flow.old places.old lanes.old }
     ensures falls { OnOk result (flow.new.behind < flow.old.behind) }
     ensures left { AreLeftWith addresses.now code.now flow.new places.new lanes.new }
 {
     go_straight(code, addresses, flow, lanes);
-    if flow.behind <= flow.until {
+    if flow.behind <= flow.stops_at {
         return Ok(());
     }
-    part(code, addresses, flow, queue, places, lanes)
+    diverge(code, addresses, flow, queue, places, lanes)
 }
 
 /// Does the instructions that the lanes of a flow do in the same way.
@@ -122,7 +122,7 @@ fn go_straight(code: &Instructions, addresses: &LaneValues, flow: &mut Flow, lan
     requires floors { (lane : ℕ) → lane < LANES → IsIn flow.old.set.mask lane →
         IsSpanned flow.old.span lane lanes.old.floors }
     ensures falls { flow.new.behind ≤ flow.old.behind }
-    ensures until { flow.new.until ≡ flow.old.until }
+    ensures stops_at { flow.new.stops_at ≡ flow.old.stops_at }
     ensures left { (places : Places) →
         AreLeftWith addresses.now code.now flow.old places lanes.old →
         AreLeftWith addresses.now code.now flow.new places lanes.new }
@@ -133,7 +133,7 @@ fn go_straight(code: &Instructions, addresses: &LaneValues, flow: &mut Flow, lan
         addresses,
         &flow.set,
         flow.behind,
-        flow.until,
+        flow.stops_at,
         &mut span,
         lanes,
     );
@@ -143,7 +143,7 @@ fn go_straight(code: &Instructions, addresses: &LaneValues, flow: &mut Flow, lan
 /// Does an instruction at which the lanes of a flow can part. Returns `Apart` if it is no such
 /// instruction, or can't be done in all of them.
 #[inline(always)]
-fn part(
+fn diverge(
     code: &Instructions,
     addresses: &LaneValues,
     flow: &mut Flow,

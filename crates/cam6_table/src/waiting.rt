@@ -42,7 +42,7 @@ impl LaneQueue {
 
     /// How many instructions are left at the place that goes on next, or 0 without a place.
     #[inline(always)]
-    pub fn until(&self) -> usize {
+    pub fn next_remaining(&self) -> usize {
         let len = self.len.min(LANES);
         if len == 0 {
             0
@@ -68,7 +68,7 @@ impl LaneQueue {
         if new.behind == 0 || self.len >= LANES {
             return;
         }
-        if self.until() < usize::from(new.behind) {
+        if self.next_remaining() < usize::from(new.behind) {
             self.waiting[self.len] = new;
             self.len += 1;
         } else {

@@ -89,7 +89,7 @@ impl<W: Way> Reading<W> {
     }
 
     /// The part that is being read. There is none above the first `as`.
-    fn part(&mut self) -> Result<&mut Part<W>, Unplayable> {
+    fn current_part(&mut self) -> Result<&mut Part<W>, Unplayable> {
         self.parts.last_mut().ok_or(Unplayable::Unread)
     }
 
@@ -115,13 +115,17 @@ impl<W: Way> Reading<W> {
 
     fn send_text(&mut self, alloc: Global, text: &str, has_end: bool) -> Result<(), Unplayable> {
         let bytes = written_out(alloc, text, self.named.as_slice())?;
-        Ok(self.part()?.sent.push(Sent { bytes, has_end })?)
+        Ok(self.current_part()?.sent.push(Sent { bytes, has_end })?)
     }
 
     /// Reads what stands after `<`, and adds the line to those that must come back.
     fn want(&mut self, alloc: Global, text: &str) -> Result<(), Unplayable> {
         let mut line = written_out(alloc, text, self.named.as_slice())?;
         line.push(b'\n')?;
-        Ok(self.part()?.wanted.extend_from_slice(line.as_slice())?)
+        Ok(
+            self.current_part()?
+                .wanted
+                .extend_from_slice(line.as_slice())?,
+        )
     }
 }

@@ -50,7 +50,7 @@ pub struct Link<'a, R: Clock> {
     clock: &'a R,
     stream: &'a TcpStream,
     host: Option<&'a TcpStream>,
-    until: Cell<Instant>,
+    deadline: Cell<Instant>,
 }
 
 impl<'a, R: Clock> Link<'a, R> {
@@ -62,7 +62,7 @@ impl<'a, R: Clock> Link<'a, R> {
             clock,
             stream,
             host: None,
-            until: Cell::new(after(clock, REQUEST_SECONDS)?),
+            deadline: Cell::new(deadline_in(clock, REQUEST_SECONDS)?),
         })
     }
 
@@ -92,7 +92,7 @@ impl<'a, R: Clock> Link<'a, R> {
         ensures { IfOk result (λ count. count ≤ length bytes.new) }
     {
         for _ in 0..TRIES {
-            let left = left_until(self.clock, self.until.get())?;
+            let left = time_left(self.clock, self.deadline.get())?;
             self.stream.set_read_timeout(Some(left))?;
             match self.stream.peek(bytes) {
                 Err(fault) if goes_on(fault.kind()) => {}
@@ -103,12 +103,12 @@ impl<'a, R: Clock> Link<'a, R> {
     }
 
     /// The same connection, with its host.
-    pub fn beside<'b>(&'b self, host: &'b TcpStream) -> Link<'b, R> {
+    pub fn with_host<'b>(&'b self, host: &'b TcpStream) -> Link<'b, R> {
         Link {
             clock: self.clock,
             stream: self.stream,
             host: Some(host),
-            until: Cell::new(self.until.get()),
+            deadline: Cell::new(self.deadline.get()),
         }
     }
 
@@ -123,14 +123,14 @@ impl<'a, R: Clock> Link<'a, R> {
     /// Lets all calls from here on take so many seconds together.
     fn allow(&self, seconds: u64) {
         // A clock that fails leaves the time as it was.
-        if let Ok(until) = after(self.clock, seconds) {
-            self.until.set(until);
+        if let Ok(deadline) = deadline_in(self.clock, seconds) {
+            self.deadline.set(deadline);
         }
     }
 
     /// Shuts the sending side, and drops what the client still sends for a while. A socket that is
     /// closed with unread bytes resets the connection, and the client may lose its last answer.
-    pub fn part(&self) -> io::Result<()> {
+    pub fn shut_down(&self) -> io::Result<()> {
         self.stream.shutdown(Shutdown::Write)?;
         self.allow(DRAIN_SECONDS);
         let mut reader = self;
@@ -167,7 +167,7 @@ impl<R: Clock> Read for &Link<'_, R> {
     fn read(&mut self, bytes: &mut [u8]) -> io::Result<usize> {
         let mut stream = self.stream;
         for _ in 0..TRIES {
-            let left = left_until(self.clock, self.until.get())?;
+            let left = time_left(self.clock, self.deadline.get())?;
             stream.set_read_timeout(Some(left.min(Duration::from_secs(LOOK_SECONDS))))?;
             match stream.read(bytes) {
                 Err(fault) if goes_on(fault.kind()) => self.look()?,
@@ -183,7 +183,7 @@ impl<R: Clock> Write for &Link<'_, R> {
     fn write(&mut self, bytes: &[u8]) -> io::Result<usize> {
         let mut stream = self.stream;
         for _ in 0..TRIES {
-            stream.set_write_timeout(Some(left_until(self.clock, self.until.get())?))?;
+            stream.set_write_timeout(Some(time_left(self.clock, self.deadline.get())?))?;
             match stream.write(bytes) {
                 Err(fault) if fault.kind() == ErrorKind::Interrupted => {}
                 written => return written,
@@ -224,16 +224,16 @@ fn has_ended(host: &TcpStream) -> bool {
 }
 
 /// So many seconds from now.
-fn after(clock: &impl Clock, seconds: u64) -> io::Result<Instant> {
+fn deadline_in(clock: &impl Clock, seconds: u64) -> io::Result<Instant> {
     match Instant::now(clock)?.checked_add(Duration::from_secs(seconds)) {
-        Some(until) => Ok(until),
+        Some(deadline) => Ok(deadline),
         None => Err(Error::from(ErrorKind::TimedOut)),
     }
 }
 
-/// The time until `until`. Fails with `TimedOut` if none is left.
-fn left_until(clock: &impl Clock, until: Instant) -> io::Result<Duration> {
-    let left = until.saturating_duration_since(Instant::now(clock)?);
+/// The time until `deadline`. Fails with `TimedOut` if none is left.
+fn time_left(clock: &impl Clock, deadline: Instant) -> io::Result<Duration> {
+    let left = deadline.saturating_duration_since(Instant::now(clock)?);
     if left.is_zero() {
         return Err(Error::from(ErrorKind::TimedOut));
     }

@@ -84,7 +84,7 @@ fn visit<'a, R: Handle + Net<Listener = TcpListener, Stream = TcpStream>>(
         Err(_) => return standing,
     }
     // The connection is closed next, so a failure here changes nothing.
-    let _ = link.part();
+    let _ = link.shut_down();
     standing
 }
 
@@ -140,7 +140,7 @@ fn bridge_to_host<R: Handle + Net<Listener = TcpListener, Stream = TcpStream>>(
         return turn_away(alloc, link, unread, Away::NoMemory);
     };
     let mut host = HostLines::new(alloc, reader, &stream);
-    bridge(alloc, &link.beside(&stream), unread, &mut host);
+    bridge(alloc, &link.with_host(&stream), unread, &mut host);
 }
 
 /// Connects to the host of this number, counted from 1, within ten seconds.

@@ -23,7 +23,7 @@ pub fn bridge<S: Read + Write + Paced + Drop, H: Host>(
     let end = carry(&mut page, host);
     let (code, reason) = farewell(end);
     // The page is gone if it can't be told.
-    let _ = page.part(code, reason);
+    let _ = page.send_close(code, reason);
     end
 }
 
@@ -36,5 +36,5 @@ pub fn turn_away<S: Read + Write + Paced + Drop>(
 ) {
     let mut page = SocketPage::new(alloc, stream, unread);
     let (code, reason) = farewell_away(why);
-    let _ = page.part(code, reason);
+    let _ = page.send_close(code, reason);
 }

@@ -80,7 +80,7 @@ pub fn farewell_away(why: Away) -> (CloseCode, &'static str)
 
 impl<S: Read + Write + Paced + Drop, K: MaskKeys + Drop> SocketPage<S, K> {
     /// Sends a close with a code and a reason.
-    pub fn part(&mut self, code: CloseCode, reason: &'static str) -> Result<(), Error>
+    pub fn send_close(&mut self, code: CloseCode, reason: &'static str) -> Result<(), Error>
         ensures { OnOk result (Writes S.contents self.old.socket self.new.socket
             (close_step self.old.socket.conn (Some (code, reason.now)))) }
     {

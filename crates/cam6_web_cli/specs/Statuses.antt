@@ -1,6 +1,6 @@
 -- The exit status of a server that can't go on, with its text.
 use Rattle.std.specs.Prelude.{ℕ, List, codes}
-use Rattle.cam6_arguments.specs.Program.{told}
+use Rattle.cam6_arguments.specs.Program.{message_of}
 use Rattle.cam6_arguments.specs.declared.programs.Program.TheVariants.{Web}
 use Rattle.cam6_web_cli.specs.declared.statuses.Fault.{Fault}
 use Rattle.cam6_web_cli.specs.declared.statuses.Fault.TheVariants as server

@@ -15,8 +15,8 @@ use Rattle.cam6_web_router.specs.Names.{Named, IsName, IsOrigin}
 use Rattle.cam6_web_router.specs.Ways.{LeadsTo, IsNoWay}
 
 -- what the first field of this name says, if there is one
-abbrev pub said : Request (List ℕ) → List ℕ → Option (List ℕ)
-said request name = option_map (λ value. value.bytes) (get (head_of request).headers name)
+abbrev pub field_value : Request (List ℕ) → List ℕ → Option (List ℕ)
+field_value request name = option_map (λ value. value.bytes) (get (head_of request).headers name)
 
 abbrev pub path_of : Request (List ℕ) → List ℕ
 path_of request = uri_path (head_of request).uri
@@ -27,7 +27,7 @@ path_to_count = codes "/hosts"
 
 -- the server is asked by this name, and it is one of its names
 pub record IsAsked (names : Named) (request : Request (List ℕ)) (host : List ℕ) : Type 0 where
-  pub says : said request (codes "host") ≡ Some host
+  pub says : field_value request (codes "host") ≡ Some host
   pub name : IsName names host
 
 -- the server is asked by one of its names
@@ -49,7 +49,7 @@ pub record AsksFor (router : Router) (request : Request (List ℕ)) (way : Way) 
 -- a page that the server shows by this name asks
 abbrev pub IsOwnPage : Named → Request (List ℕ) → List ℕ → Type 0
 IsOwnPage names request host =
-    (origin : List ℕ) × (said request (codes "origin") ≡ Some origin)
+    (origin : List ℕ) × (field_value request (codes "origin") ≡ Some origin)
     × IsOrigin names host origin
 
 -- the request is that of a page of the server for a socket that leads this way
@@ -60,15 +60,15 @@ MayAsk router request way =
 -- the connection is to go on as a socket, in version 13 of the protocol
 abbrev pub AsksForWebSocket : Request (List ℕ) → Type 0
 AsksForWebSocket request =
-    (upgrade : List ℕ) × (said request (codes "upgrade") ≡ Some upgrade)
+    (upgrade : List ℕ) × (field_value request (codes "upgrade") ≡ Some upgrade)
     × (map to_ascii_lowercase upgrade ≡ codes "websocket")
-    × (said request (codes "sec-websocket-version") ≡ Some (codes "13"))
+    × (field_value request (codes "sec-websocket-version") ≡ Some (codes "13"))
 
 -- the request is a handshake with this key
 pub record IsHandshake (request : Request (List ℕ)) (key : List ℕ) : Type 0 where
   pub method : (head_of request).method ≡ codes "GET"
   pub asks : AsksForWebSocket request
-  pub says : said request (codes "sec-websocket-key") ≡ Some key
+  pub says : field_value request (codes "sec-websocket-key") ≡ Some key
   pub valid : IsValidKey key
 
 abbrev pub IsNoHandshake : Request (List ℕ) → Type 0

@@ -2,7 +2,7 @@
 ghost use Rattle.std.specs.Prelude.{◌≡◌, ◌↔◌, IfNone, IfSome, IsTrue, option_map};
 ghost use Rattle.http_header.specs.Token.{lowercase};
 ghost use Rattle.cam6_web_router.specs.Answers.{Accepts, AsksForWebSocket, IsAnswerTo, IsAsked};
-ghost use Rattle.cam6_web_router.specs.Answers.{IsNoHandshake, IsShow, path_of, said};
+ghost use Rattle.cam6_web_router.specs.Answers.{IsNoHandshake, IsShow, path_of, field_value};
 ghost use Rattle.cam6_web_router.specs.Ways.{LeadsTo};
 
 use crate::routers::Router;
@@ -39,7 +39,7 @@ pub enum Answer {
 pub fn answer_to(router: &Router, has_room: bool, request: &Request<Bytes>) -> Answer
     ensures { IsAnswerTo router.now has_room request.now result }
 {
-    let Some(host) = said(request, "host") else {
+    let Some(host) = field_value(request, "host") else {
         return Answer::Misdirected;
     };
     if !router.names.is_name(host) {
@@ -74,7 +74,7 @@ fn answer_to_socket(
     requires leads { LeadsTo router.now.hosts (path_of request.now) way }
     ensures { IsAnswerTo router.now has_room request.now result }
 {
-    let Some(origin) = said(request, "origin") else {
+    let Some(origin) = field_value(request, "origin") else {
         return Answer::Foreign;
     };
     if !router.names.is_origin(origin, host) {
@@ -99,7 +99,7 @@ fn accepted(request: &Request<Bytes>) -> Option<[u8; 28]>
     if request.method().as_str() != "GET" || !asks_for_websocket(request) {
         return None;
     }
-    let Some(key) = said(request, "sec-websocket-key") else {
+    let Some(key) = field_value(request, "sec-websocket-key") else {
         return None;
     };
     match accept_key(key) {
@@ -113,8 +113,8 @@ fn asks_for_websocket(request: &Request<Bytes>) -> bool
     ensures { IsTrue result ↔ AsksForWebSocket request.now }
 {
     let (Some(upgrade), Some(version)) = (
-        said(request, "upgrade"),
-        said(request, "sec-websocket-version"),
+        field_value(request, "upgrade"),
+        field_value(request, "sec-websocket-version"),
     ) else {
         return false;
     };
@@ -122,8 +122,8 @@ fn asks_for_websocket(request: &Request<Bytes>) -> bool
 }
 
 /// What the first field of this name says, or `None` if there is no such field.
-fn said<'a>(request: &'a Request<Bytes>, name: &str) -> Option<&'a [u8]>
-    ensures { option_map (λ bytes. bytes.now) result ≡ said request.now (lowercase name.now) }
+fn field_value<'a>(request: &'a Request<Bytes>, name: &str) -> Option<&'a [u8]>
+    ensures { option_map (λ bytes. bytes.now) result ≡ field_value request.now (lowercase name.now) }
 {
     match request.headers().get(name) {
         Some(value) => Some(value.as_bytes()),

@@ -108,7 +108,7 @@ fn tell(
             response.add_header(header::CONTENT_ENCODING, HeaderValue::from_static("gzip"))
         }
         Answer::Counts => {
-            let count = Bytes::copy_from_slice(alloc, router.hosts.told())?;
+            let count = Bytes::copy_from_slice(alloc, router.hosts.count_text())?;
             show(response, StatusCode::OK, plain_text(), count)
         }
         Answer::NotFound => refuse(response, StatusCode::NOT_FOUND, refusals::NOT_FOUND),

@@ -19,7 +19,7 @@ pub enum Way {
 #[derive(Drop)]
 pub struct Hosts {
     paths: Vec<Bytes>,
-    told: Bytes,
+    count_text: Bytes,
 }
 
 impl Model for Hosts {
@@ -34,7 +34,7 @@ impl Model for Hosts {
 
     ghost view = { λ h. length h.paths.items };
 
-    ghost invariant = { λ h. ArePaths h.paths.items × (h.told ≡ decimal (length h.paths.items)) };
+    ghost invariant = { λ h. ArePaths h.paths.items × (h.count_text ≡ decimal (length h.paths.items)) };
 }
 
 impl Hosts {
@@ -48,18 +48,18 @@ impl Hosts {
             let path = format!(in alloc; "/ws/{number}")?;
             paths.push(Bytes::copy_from_slice(alloc, path.as_bytes())?)?;
         }
-        let told = format!(in alloc; "{count}")?;
+        let count_text = format!(in alloc; "{count}")?;
         Ok(Hosts {
             paths,
-            told: Bytes::copy_from_slice(alloc, told.as_bytes())?,
+            count_text: Bytes::copy_from_slice(alloc, count_text.as_bytes())?,
         })
     }
 
     /// How many hosts there are, in decimal.
-    pub fn told(&self) -> &[u8]
+    pub fn count_text(&self) -> &[u8]
         ensures { result.now ≡ decimal self.now }
     {
-        self.told.as_slice()
+        self.count_text.as_slice()
     }
 
     /// Where the socket at a path leads. `/ws` leads to the first host or, if there is none, to a

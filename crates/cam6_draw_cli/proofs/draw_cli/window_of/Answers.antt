@@ -4,4 +4,4 @@ use Rattle.cam6_draw_cli.proofs.draw_cli.window_of.Goals as goal
 
 pub returns-then-words-eq4 : goal.returns-then-words-eq4
 returns-then-words-eq4 c =
-    c.window_said.ensures ∙ window_is c.args.words.now _ _ _ _ (omega arith)
+    c.window_asked_for.ensures ∙ window_is c.args.words.now _ _ _ _ (omega arith)

@@ -8,13 +8,13 @@ use Rattle.cam6_table.proofs.TakenAlong.{untouched_left}
 use Rattle.cam6_table.proofs.flows.go_apart.Goals as goal
 
 pub returns-then-behind-target-clause-left : goal.returns-then-behind-target-clause-left
-returns-then-behind-target-clause-left c = λ parted.
+returns-then-behind-target-clause-left c = λ split.
     let addresses = c.args.addresses.now in
     let code = c.args.code.now in
     let lanes = c.args.lanes.now in
     let run = c.run_straight-behind in
     let mid = run.new.lanes in
-    let within = parted.within in
+    let within = split.within in
     let parts = c.requires.parts in
     let wait = c.wait.ensures in
     record {
@@ -23,7 +23,7 @@ returns-then-behind-target-clause-left c = λ parted.
       floors = run.ensures.floors;
       each = λ lane below. (parts lane below).each_second;
       inside = λ lane below inside.
-          run.ensures.left.inside lane below inside (parted.others lane below inside);
+          run.ensures.left.inside lane below inside (split.others lane below inside);
       outside = λ lane below out.
           elim ((parts lane below).each) [
             | inl inside ↦ elim ((parts lane below).one inside) [
@@ -31,19 +31,19 @@ returns-then-behind-target-clause-left c = λ parted.
                   left_there (slice_index addresses lane) code _ _ _ _ mid lane
                   (wait.behinds lane below zero) (wait.tops lane below zero)
                   (untouched_left (slice_index addresses lane) code _ _ lanes mid lane
-                  (run.ensures.left.outside lane below out) (parted.zeros lane below zero))
+                  (run.ensures.left.outside lane below out) (split.zeros lane below zero))
               | inr other ↦ absurd (omega (arith, out, other))
             ]
             | inr none ↦ (let first = (parts lane below).none_first none in
                 left_there (slice_index addresses lane) code _ _ _ _ mid lane
                 (wait.other_behinds lane below first) (wait.other_tops lane below first)
                 (untouched_left (slice_index addresses lane) code _ _ lanes mid lane
-                (run.ensures.left.outside lane below out) (parted.outside lane below none)))
+                (run.ensures.left.outside lane below out) (split.outside lane below none)))
           ];
     }
 
 pub returns-then-lanes-there-clause-left : goal.returns-then-lanes-there-clause-left
-returns-then-lanes-there-clause-left c = λ parted.
+returns-then-lanes-there-clause-left c = λ split.
     let addresses = c.args.addresses.now in
     let code = c.args.code.now in
     let flow = c.args.flow.now in
@@ -52,7 +52,7 @@ returns-then-lanes-there-clause-left c = λ parted.
     let mid = run.new.lanes in
     let level = c.level-top.ensures in
     let moved = c.level-top.new.lanes in
-    let within = parted.within in
+    let within = split.within in
     let parts = c.requires.parts in
     let zeros : (lane : ℕ) → lane < LANES → IsIn c.args.parts.zeros lane →
     IsLeft (slice_index addresses lane) code run.result c.level-top.result _ lane =
@@ -60,14 +60,14 @@ returns-then-lanes-there-clause-left c = λ parted.
     let is = left_there (slice_index addresses lane) code _ _ _ _ mid lane (omega arith) refl
     (untouched_left (slice_index addresses lane) code _ _ lanes mid lane
     (run.ensures.left.outside lane below ((parts lane below).first_only zero))
-    (parted.zeros lane below zero)) in
+    (split.zeros lane below zero)) in
     same_left _ _ _ _ moved _ lane refl refl
     (kept_left (slice_index addresses lane) code _ _ mid _ moved lane
     (level.second lane below zero is.stands) is)) in
     let others : (lane : ℕ) → lane < LANES → IsIn c.args.parts.others lane →
     IsLeft (slice_index addresses lane) code run.result c.level-top.result _ lane =
     (λ lane below other.
-    let is = run.ensures.left.inside lane below other (parted.others lane below other) in
+    let is = run.ensures.left.inside lane below other (split.others lane below other) in
     same_left _ _ _ _ moved _ lane refl refl
     (kept_left (slice_index addresses lane) code _ _ mid _ moved lane
     (level.first lane below other is.stands) is)) in
@@ -92,18 +92,18 @@ returns-then-lanes-there-clause-left c = λ parted.
           ((parts lane below).none_first out))
           (untouched_left (slice_index addresses lane) code _ _ lanes mid lane
           (run.ensures.left.outside lane below ((parts lane below).none_second out))
-          (parted.outside lane below out)));
+          (split.outside lane below out)));
     }
 
 pub returns-else-lanes-there-clause-left : goal.returns-else-lanes-there-clause-left
-returns-else-lanes-there-clause-left c = λ parted.
+returns-else-lanes-there-clause-left c = λ split.
     let addresses = c.args.addresses.now in
     let code = c.args.code.now in
     let flow = c.args.flow.now in
     let lanes = c.args.lanes.now in
     let run = c.run_straight-behind in
     let mid = run.new.lanes in
-    let within = parted.within in
+    let within = split.within in
     let parts = c.requires.parts in
     let narrows = run.ensures.narrows in
     let low = c.requires.holds.low in
@@ -114,7 +114,7 @@ returns-else-lanes-there-clause-left c = λ parted.
       floors = λ lane below inside.
           elim ((parts lane below).one inside) [
             | inl zero ↦ (run.ensures.left.outside lane below ((parts lane below).first_only zero)).spanned
-                flow.span (parted.floors lane below inside)
+                flow.span (split.floors lane below inside)
             | inr other ↦ spanned_within flow.span run.new.span lane mid.floors narrows
                 (run.ensures.floors lane below other)
           ];
@@ -125,11 +125,11 @@ returns-else-lanes-there-clause-left c = λ parted.
                 left_there (slice_index addresses lane) code _ _ _ _ mid lane (omega arith) (omega arith)
                 (untouched_left (slice_index addresses lane) code _ _ lanes mid lane
                 (run.ensures.left.outside lane below ((parts lane below).first_only zero))
-                (parted.zeros lane below zero))
-            | inr other ↦ run.ensures.left.inside lane below other (parted.others lane below other)
+                (split.zeros lane below zero))
+            | inr other ↦ run.ensures.left.inside lane below other (split.others lane below other)
           ];
       outside = λ lane below out.
           untouched_left (slice_index addresses lane) code _ _ lanes mid lane
           (run.ensures.left.outside lane below ((parts lane below).none_second out))
-          (parted.outside lane below out);
+          (split.outside lane below out);
     }

@@ -47,9 +47,9 @@ returns-then-parts-eq0-clause-left c = λ next left.
           ap (λ (row : List ℕ). slice_index row lane) c.at_depth-top.ensures in
           let other = not_zero (slice_index flow.set.mask lane)
           (slice_index c.at_depth-top.result.now lane)
-          (slice_index c.parted-parts.result.zeros lane) (slice_index c.parted-parts.result.others lane)
-          (c.parted-parts.ensures.zeros lane below) (c.parted-parts.ensures.others lane below) inside
-          (c.parted-parts.ensures.none_zero c.if-parts-eq0.true lane below) in
+          (slice_index c.split-parts.result.zeros lane) (slice_index c.split-parts.result.others lane)
+          (c.split-parts.ensures.zeros lane below) (c.split-parts.ensures.others lane below) inside
+          (c.split-parts.ensures.none_zero c.if-parts-eq0.true lane below) in
           left_after_if (slice_index addresses lane) code flow.behind (flow.behind - 1) len lanes _
           lane (omega arith) (let low = (left.floors lane below inside).in_place in omega arith) refl refl (left.inside lane below inside) c.args.distance 0 next
           (goes_in v c.args.distance (λ is. other (top ∙ is))) (omega arith);
@@ -77,9 +77,9 @@ returns-then-parts-eq0-2-clause-left c = λ next left.
           ap (λ (row : List ℕ). slice_index row lane) c.at_depth-top.ensures in
           let zero = is_zero (slice_index flow.set.mask lane)
           (slice_index c.at_depth-top.result.now lane)
-          (slice_index c.parted-parts.result.zeros lane) (slice_index c.parted-parts.result.others lane)
-          (c.parted-parts.ensures.zeros lane below) (c.parted-parts.ensures.others lane below) inside
-          (c.parted-parts.ensures.none_other c.if-parts-eq0-2.true lane below) in
+          (slice_index c.split-parts.result.zeros lane) (slice_index c.split-parts.result.others lane)
+          (c.split-parts.ensures.zeros lane below) (c.split-parts.ensures.others lane below) inside
+          (c.split-parts.ensures.none_other c.if-parts-eq0-2.true lane below) in
           left_after_if (slice_index addresses lane) code flow.behind target.result len lanes _ lane
           (omega arith) (let low = (left.floors lane below inside).in_place in omega arith) refl refl
           (left.inside lane below inside) c.args.distance
@@ -91,9 +91,9 @@ returns-then-parts-eq0-2-clause-left c = λ next left.
 pub go_apart-requires-clause-parts : goal.go_apart-requires-clause-parts
 go_apart-requires-clause-parts c = λ lane below.
     one_part (slice_index c.args.flow.now.set.mask lane)
-    (slice_index c.at_depth-top.result.now lane) (slice_index c.parted-parts.result.zeros lane)
-    (slice_index c.parted-parts.result.others lane) (c.parted-parts.ensures.zeros lane below)
-    (c.parted-parts.ensures.others lane below) (c.requires.each lane below)
+    (slice_index c.at_depth-top.result.now lane) (slice_index c.split-parts.result.zeros lane)
+    (slice_index c.split-parts.result.others lane) (c.split-parts.ensures.zeros lane below)
+    (c.split-parts.ensures.others lane below) (c.requires.each lane below)
 
 pub returns-clause-left : goal.returns-clause-left
 returns-clause-left c = λ next left.
@@ -107,10 +107,10 @@ returns-clause-left c = λ next left.
     let target = c.saturating_sub-target in
     let set = λ (lane : ℕ). slice_index flow.set.mask lane in
     let top = λ (lane : ℕ). slice_index c.at_depth-top.result.now lane in
-    let zeros = λ (lane : ℕ). slice_index c.parted-parts.result.zeros lane in
-    let others = λ (lane : ℕ). slice_index c.parted-parts.result.others lane in
-    let zeros_are = c.parted-parts.ensures.zeros in
-    let others_are = c.parted-parts.ensures.others in
+    let zeros = λ (lane : ℕ). slice_index c.split-parts.result.zeros lane in
+    let others = λ (lane : ℕ). slice_index c.split-parts.result.others lane in
+    let zeros_are = c.split-parts.ensures.zeros in
+    let others_are = c.split-parts.ensures.others in
     c.go_apart.ensures.left (record {
       within = omega arith;
       floors = left.floors;

@@ -1,5 +1,5 @@
 use Rattle.std.proofs.Common.{◌-◌}
-use Rattle.cam6_web.proofs.links.Link.part.Given as goal
+use Rattle.cam6_web.proofs.links.Link.shut_down.Given as goal
 
 -- each turn drops a byte at least
 abbrev pub decreases-loop-drained : goal.decreases-loop-drained

@@ -1,6 +1,6 @@
 use Rattle.std.proofs.Common.{subst}
 use Rattle.cam6_table.specs.Internal.Lanes.{IsNext}
-use Rattle.cam6_table.proofs.together.part.Goals as goal
+use Rattle.cam6_table.proofs.together.diverge.Goals as goal
 
 pub returns-in-SkipIfZero-clause-left : goal.returns-in-SkipIfZero-clause-left
 returns-in-SkipIfZero-clause-left c =

@@ -3,7 +3,7 @@ use Rattle.std.proofs.lemmas.List.{length-set}
 use Rattle.std.proofs.lemmas.Nat.{le_or_l, le_or_r}
 use Rattle.cam6_table.proofs.ChosenValues.{kept_if, kept_unless}
 use Rattle.cam6_table.proofs.EachLane.{one_lane_more}
-use Rattle.cam6_table.proofs.sets.parted.Goals as goal
+use Rattle.cam6_table.proofs.sets.split.Goals as goal
 
 pub loop-lane-preserved : goal.loop-lane-preserved
 loop-lane-preserved c =

@@ -1,6 +1,6 @@
 use Rattle.std.proofs.Common.{length, ◌≡◌, ◌==◌, ◌≤◌, ◌<◌, ℕ, slice_index, if◌then◌else◌}
 use Rattle.cam6_table.specs.declared.lane_values.TheConstants.{LANES}
-use Rattle.cam6_table.proofs.sets.parted.Given as goal
+use Rattle.cam6_table.proofs.sets.split.Given as goal
 
 abbrev pub invariant-loop-lane : goal.invariant-loop-lane
 invariant-loop-lane l = record {
