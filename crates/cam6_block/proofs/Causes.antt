@@ -36,7 +36,7 @@ first_hit p (suc n) k s here is low high holds none =
           ap (λ b. if b then k else first_from p n (suc k)) (ap p (sym same) ∙ holds) ∙ sym same
     ]
 
--- where p holds at none of them, the number behind them all
+-- where p holds at none of them, the number after them all
 first_past : (p : ℕ → Bool) (n k : ℕ) → ((i : ℕ) → i < k + n → p i ≡ false) →
     first_from p n k ≡ k + n
 first_past p zero k none = omega arith

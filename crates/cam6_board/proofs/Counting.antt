@@ -15,7 +15,7 @@ use Rattle.cam6_board.specs.declared.images.Image.TheVariants.{Rest, Mid}
 use Rattle.cam6_board.specs.Images.{planes_in, rows_of, is_rest, GoesOn}
 use Rattle.cam6_board.specs.Jobs.{StoredJob}
 use Rattle.cam6_board.specs.Bands.{end_of, Counts}
-use Rattle.cam6_board.specs.Running.{Banded, AreBands, job_behind, bands_of_step, bands_left}
+use Rattle.cam6_board.specs.Running.{Banded, AreBands, job_after, bands_of_step, bands_left}
 use Rattle.cam6_board.specs.Laws.{EachBandIsOneLess, JobsEnd}
 
 some_band : 0 < band
@@ -110,17 +110,17 @@ steady_stays before (Mid mid) goes_on steady =
       under = λ no. omega (arith, goes_on.1);
     }
 
-pub steady_behind : (tables : List (List ℕ)) (job : StoredJob) (bands : List Banded) →
-    AreBands tables job bands → IsSteady job.image → IsSteady (job_behind job bands).image
-steady_behind tables job [] are steady = steady
-steady_behind tables job (one ∷ later) are steady =
-    steady_behind tables one.job later are.2
+pub steady_after : (tables : List (List ℕ)) (job : StoredJob) (bands : List Banded) →
+    AreBands tables job bands → IsSteady job.image → IsSteady (job_after job bands).image
+steady_after tables job [] are steady = steady
+steady_after tables job (one ∷ later) are steady =
+    steady_after tables one.job later are.2
     (steady_stays job.image one.job.image are.1.goes_on steady)
 
 -- the bands that were and those that are left are those that there were to be
 count_down : (tables : List (List ℕ)) (job : StoredJob) (bands : List Banded) →
     AreBands tables job bands →
-    length bands + bands_left (job_behind job bands) ≡ bands_left job
+    length bands + bands_left (job_after job bands) ≡ bands_left job
 count_down tables job [] are = omega arith
 count_down tables job (one ∷ later) are =
     omega (
@@ -174,10 +174,10 @@ no_step_left job steady none = by_steps job.steps refl
 
 pub jobs_end : JobsEnd
 jobs_end tables job bands at_rest are =
-    let last = job_behind job bands in
+    let last = job_after job bands in
     let all : length bands + bands_left last ≡ job.steps * bands_of_step job =
     count_down tables job bands are ∙ all_left job at_rest in
-    let steady = steady_behind tables job bands are (rest_is_steady job.image at_rest) in (
+    let steady = steady_after tables job bands are (rest_is_steady job.image at_rest) in (
       omega (arith, all),
       (
         λ none. omega (arith, all, none_left last none),

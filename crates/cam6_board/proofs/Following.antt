@@ -21,10 +21,10 @@ use Rattle.cam6_rules.proofs.MovesByTables.{one_more_by_tables}
 use Rattle.cam6_board.specs.declared.boards.BandEnd.{BandEnd}
 use Rattle.cam6_board.specs.declared.images.Image.{Image}
 use Rattle.cam6_board.specs.declared.images.Image.TheVariants.{Rest, Mid}
-use Rattle.cam6_board.specs.Images.{planes_in, IsOnTheWay, IsBehindBand, GoesOn}
+use Rattle.cam6_board.specs.Images.{planes_in, IsOnTheWay, IsAfterBand, GoesOn}
 use Rattle.cam6_board.specs.Jobs.{StoredJob}
 use Rattle.cam6_board.specs.Bands.{step_of, end_of, Counts, Moves}
-use Rattle.cam6_board.specs.Standing.{GoesAlong, IsStepsOn, steps_behind}
+use Rattle.cam6_board.specs.Standing.{GoesAlong, IsStepsOn, steps_after}
 use Rattle.cam6_board.specs.Laws.{BandsFollowTheMachine}
 
 -- among the entries are that by which a step goes and the position after it
@@ -51,9 +51,9 @@ there_is xs i within = elim (slice_get_cases xs i).1 [
 ]
 
 -- a band ends a step as it is told
-pub one_more_behind : (steps n : ℕ) → steps_behind (end_of steps) n ≡ n + 1
-one_more_behind zero n = refl
-one_more_behind (suc steps) n = refl
+pub one_more_after : (steps n : ℕ) → steps_after (end_of steps) n ≡ n + 1
+one_more_after zero n = refl
+one_more_after (suc steps) n = refl
 
 module _ (m : Machine) (tables : List (List ℕ)) (n : ℕ) (before : StoredJob) (is : IsMachine m)
     (goes : GoesAlong m tables before) (on : IsStepsOn m n before) where
@@ -81,14 +81,14 @@ module _ (m : Machine) (tables : List (List ℕ)) (n : ℕ) (before : StoredJob)
       its_step.1)
 
   module _ (after : StoredJob) (end : BandEnd) (moves : Moves tables before end after) where
-    behind : IsBehindBand (moved before.direction n m).planes
+    beyond : IsAfterBand (moved before.direction n m).planes
         (moved before.direction (n + 1) m).planes after.image
-    behind =
+    beyond =
         let o = (moved before.direction n m).planes in
         let step = its_step.0 in
         let made = further.0 ∙
         ap (λ (k : Side). step_by (side_number k) step o) (sym on.side) in
-        subst (λ (f : Cells). IsBehindBand o f after.image) (sym made)
+        subst (λ (f : Cells). IsAfterBand o f after.image) (sym made)
         (moves.planes o step its_step.1
         (subst (λ (f : Cells). IsOnTheWay o f before.image) made on.planes))
 
@@ -102,11 +102,11 @@ module _ (m : Machine) (tables : List (List ℕ)) (n : ℕ) (before : StoredJob)
         × (after.position < length before.cycle)
 
     stands : (image : Image) → GoesOn before.image image → Counts image before end after →
-        IsBehindBand (moved before.direction n m).planes
+        IsAfterBand (moved before.direction n m).planes
         (moved before.direction (n + 1) m).planes image →
-        Stands (steps_behind end n) image
+        Stands (steps_after end n) image
     stands (Mid mid) goes_on counts way =
-        subst (λ e. Stands (steps_behind e n) (Mid mid)) (sym counts.0) (
+        subst (λ e. Stands (steps_after e n) (Mid mid)) (sym counts.0) (
           goes_on.0.side ∙ on.side,
           counts.1 ∙ on.position,
           way,
@@ -115,7 +115,7 @@ module _ (m : Machine) (tables : List (List ℕ)) (n : ℕ) (before : StoredJob)
     stands (Rest rest) goes_on counts way =
         let len = length before.cycle in
         subst (λ k. Stands k (Rest rest))
-        (sym (ap (λ e. steps_behind e n) counts.0 ∙ one_more_behind after.steps n)) (
+        (sym (ap (λ e. steps_after e n) counts.0 ∙ one_more_after after.steps n)) (
           goes_on.0.side ∙ on.side,
           counts.1 ∙ ap (position_after before.direction len) on.position ∙ sym further.1,
           way,
@@ -125,7 +125,7 @@ module _ (m : Machine) (tables : List (List ℕ)) (n : ℕ) (before : StoredJob)
 
     pub still_along : GoesAlong m tables after
     still_along =
-        let stand = stands after.image moves.goes_on moves.counts behind in
+        let stand = stands after.image moves.goes_on moves.counts beyond in
         record {
           numbered = subst (AreNumbered m.rules) (sym moves.cycle) goes.numbered;
           cycle = goes.cycle ∙ ap (named_entries m.rules) (sym moves.cycle);
@@ -136,10 +136,10 @@ module _ (m : Machine) (tables : List (List ℕ)) (n : ℕ) (before : StoredJob)
               (sym moves.cycle) goes.true_tables);
         }
 
-    pub steps_on : IsStepsOn m (steps_behind end n) after
+    pub steps_on : IsStepsOn m (steps_after end n) after
     steps_on =
-        let stand = stands after.image moves.goes_on moves.counts behind in
-        let k = steps_behind end n in
+        let stand = stands after.image moves.goes_on moves.counts beyond in
+        let k = steps_after end n in
         record {
           side = stand.0;
           position = stand.1 ∙ ap (λ d. (moved d k m).position) (sym moves.direction);

@@ -7,7 +7,7 @@ use Rattle.cam6_band.specs.ByTables.{StepTables, step_by}
 use Rattle.cam6_board.specs.declared.boards.BandEnd.TheVariants.{Inside}
 use Rattle.cam6_board.specs.declared.images.Image.{Image}
 use Rattle.cam6_board.specs.declared.images.Image.TheVariants.{Rest, Mid}
-use Rattle.cam6_board.specs.Images.{planes_in, is_rest, IsOnTheWay, IsBehindBand, GoesOn}
+use Rattle.cam6_board.specs.Images.{planes_in, is_rest, IsOnTheWay, IsAfterBand, GoesOn}
 use Rattle.cam6_board.specs.Jobs.{StoredJob, stored_job}
 use Rattle.cam6_board.specs.Bands.{step_of, end_of, Counts, Moves}
 
@@ -15,15 +15,15 @@ module _ (tables : List (List ℕ)) (before : StoredJob) (image : Image) (by : S
     (goes : step_of before tables ≡ Some by) (on : GoesOn before.image image)
     (planes : (o : Cells) →
     IsOnTheWay o (step_by (width (planes_in before.image)) by o) before.image →
-    IsBehindBand o (step_by (width (planes_in before.image)) by o) image) where
+    IsAfterBand o (step_by (width (planes_in before.image)) by o) image) where
   by_these : (o : Cells) (step : StepTables) → step_of before tables ≡ Some step →
       IsOnTheWay o (step_by (width (planes_in before.image)) step o) before.image →
-      IsBehindBand o (step_by (width (planes_in before.image)) step o) image
+      IsAfterBand o (step_by (width (planes_in before.image)) step o) image
   by_these o step at =
       let same : by ≡ step = cc (goes, at) in
       subst (λ (s : StepTables).
       IsOnTheWay o (step_by (width (planes_in before.image)) s o) before.image →
-      IsBehindBand o (step_by (width (planes_in before.image)) s o) image) same (planes o)
+      IsAfterBand o (step_by (width (planes_in before.image)) s o) image) same (planes o)
 
   -- within a step
   pub inside : is_rest image ≡ false →
@@ -44,12 +44,12 @@ module _ (tables : List (List ℕ)) (before : StoredJob) (image : Image) (by : S
       counted (Mid mid) e = (refl, refl, refl)
 
   -- at the end of one
-  pub behind : (steps : ℕ) → is_rest image ≡ true → steps + 1 ≡ before.steps →
+  pub beyond : (steps : ℕ) → is_rest image ≡ true → steps + 1 ≡ before.steps →
       Moves tables before (end_of steps)
       (stored_job image before.cycle
       (position_after before.direction (length before.cycle) before.position) before.direction
       steps)
-  behind steps rest less = record {
+  beyond steps rest less = record {
     cycle = refl;
     direction = refl;
     goes_on = on;

@@ -14,11 +14,11 @@ use Rattle.cam6_board.specs.declared.boards.BandEnd.{BandEnd}
 use Rattle.cam6_board.specs.Images.{planes_in, rows_of, is_rest, GoesOn}
 use Rattle.cam6_board.specs.Jobs.{StoredJob}
 use Rattle.cam6_board.specs.Bands.{Counts}
-use Rattle.cam6_board.specs.Running.{Banded, AreBands, job_behind}
-use Rattle.cam6_board.specs.Standing.{GoesAlong, IsStepsOn, steps_behind}
+use Rattle.cam6_board.specs.Running.{Banded, AreBands, job_after}
+use Rattle.cam6_board.specs.Standing.{GoesAlong, IsStepsOn, steps_after}
 use Rattle.cam6_board.specs.Laws.{BandsAreSteps}
-use Rattle.cam6_board.proofs.Following.{bands_follow, one_more_behind}
-use Rattle.cam6_board.proofs.Counting.{IsSteady, rest_is_steady, steady_behind}
+use Rattle.cam6_board.proofs.Following.{bands_follow, one_more_after}
+use Rattle.cam6_board.proofs.Counting.{IsSteady, rest_is_steady, steady_after}
 
 -- so many times and so many more are all of them
 add_times : (a b s : ℕ) → (a + b) * s ≡ a * s + b * s
@@ -32,7 +32,7 @@ add_times (suc a) b s =
 -- how many steps a band adds
 record Adds (n s : ℕ) (before after : Image) (end : BandEnd) : Type 0 where
   steps : ℕ
-  behind : steps_behind end n ≡ n + steps
+  beyond : steps_after end n ≡ n + steps
   rows : steps * s + rows_of after ≡ rows_of before + band
 
 adds : (n s : ℕ) (before after : StoredJob) (end : BandEnd) (image : Image) →
@@ -42,21 +42,21 @@ adds n s before after end (Mid mid) side goes_on counts =
     let none : n ≡ n + 0 = omega arith in
     record {
       steps = 0;
-      behind = ap (λ e. steps_behind e n) counts.0 ∙ none;
+      beyond = ap (λ e. steps_after e n) counts.0 ∙ none;
       rows = omega (arith, goes_on.1, zero-mul s);
     }
 adds n s before after end (Rest rest) side goes_on counts =
     record {
       steps = 1;
-      behind = ap (λ e. steps_behind e n) counts.0 ∙ one_more_behind after.steps n;
+      beyond = ap (λ e. steps_after e n) counts.0 ∙ one_more_after after.steps n;
       rows = omega (arith, goes_on.1, side, suc-mul 0 s, zero-mul s);
     }
 
 -- how many steps bands are, and how many rows they have made of the next one
 record Comes (m : Machine) (n : ℕ) (job : StoredJob) (bands : List Banded) : Type 0 where
   steps : ℕ
-  on : IsStepsOn m (n + steps) (job_behind job bands)
-  rows : steps * side_number m.side + rows_of (job_behind job bands).image
+  on : IsStepsOn m (n + steps) (job_after job bands)
+  rows : steps * side_number m.side + rows_of (job_after job bands).image
       ≡ length bands * band + rows_of job.image
 
 comes : (m : Machine) (tables : List (List ℕ)) (n : ℕ) (job : StoredJob) (bands : List Banded) →
@@ -74,14 +74,14 @@ comes m tables n job (one ∷ later) is goes on are =
     let (still, stands) = bands_follow m tables n job one.job one.end is goes on are.1 in
     let added = adds n s job one.job one.end one.job.image (ap side_number (sym on.side))
     are.1.goes_on are.1.counts in
-    let rest = comes m tables (steps_behind one.end n) one.job later is still stands are.2 in
-    let sum : steps_behind one.end n + rest.steps ≡ n + (added.steps + rest.steps) =
-    omega (arith, added.behind) in
+    let rest = comes m tables (steps_after one.end n) one.job later is still stands are.2 in
+    let sum : steps_after one.end n + rest.steps ≡ n + (added.steps + rest.steps) =
+    omega (arith, added.beyond) in
     let product : (added.steps + rest.steps) * s ≡ added.steps * s + rest.steps * s =
     add_times added.steps rest.steps s in
     record {
       steps = added.steps + rest.steps;
-      on = subst (λ k. IsStepsOn m k (job_behind one.job later)) sum rest.on;
+      on = subst (λ k. IsStepsOn m k (job_after one.job later)) sum rest.on;
       rows = omega (arith, product, added.rows, rest.rows);
     }
 
@@ -96,9 +96,9 @@ at_rest image steady none = by_test (is_rest image) refl
 pub bands_are_steps : BandsAreSteps
 bands_are_steps m tables n steps job bands is goes on rest are whole =
     let s = side_number m.side in
-    let last = job_behind job bands in
+    let last = job_after job bands in
     let come = comes m tables n job bands is goes on are in
-    let steady = steady_behind tables job bands are (rest_is_steady job.image rest) in
+    let steady = steady_after tables job bands are (rest_is_steady job.image rest) in
     let begun : rows_of job.image ≡ 0 = no_rows job.image rest in
     let side : side_number (planes_in last.image).side ≡ s = ap side_number come.on.side in
     let few : rows_of last.image < s = omega (arith, steady.room, side) in

@@ -9,7 +9,7 @@ use Rattle.cam6_board.specs.declared.boards.BandEnd.{BandEnd}
 use Rattle.cam6_board.specs.declared.boards.BandEnd.TheVariants.{Inside, StepEnd, LastEnd}
 use Rattle.cam6_board.specs.declared.images.Image.{Image}
 use Rattle.cam6_board.specs.declared.images.Image.TheVariants.{Rest, Mid}
-use Rattle.cam6_board.specs.Images.{planes_in, IsOnTheWay, IsBehindBand, GoesOn}
+use Rattle.cam6_board.specs.Images.{planes_in, IsOnTheWay, IsAfterBand, GoesOn}
 use Rattle.cam6_board.specs.Jobs.{StoredJob}
 
 -- the tables that the step of a job uses, among tables that lie as its cycle needs them
@@ -41,4 +41,4 @@ pub record Moves (tables : List (List ℕ)) (before : StoredJob) (end : BandEnd)
   pub counts : Counts after.image before end after
   pub planes : (o : Cells) (step : StepTables) → step_of before tables ≡ Some step →
       IsOnTheWay o (step_by (width (planes_in before.image)) step o) before.image →
-      IsBehindBand o (step_by (width (planes_in before.image)) step o) after.image
+      IsAfterBand o (step_by (width (planes_in before.image)) step o) after.image

@@ -27,9 +27,9 @@ IsOnTheWay o p (Rest rest) = cells rest.planes ≡ o
 IsOnTheWay o p (Mid mid) = Partway o p mid
 
 -- an image that shows planes p, or that is partway to them from planes o
-abbrev pub IsBehindBand : Cells → Cells → Image → Type 0
-IsBehindBand o p (Rest rest) = cells rest.planes ≡ p
-IsBehindBand o p (Mid mid) = Partway o p mid
+abbrev pub IsAfterBand : Cells → Cells → Image → Type 0
+IsAfterBand o p (Rest rest) = cells rest.planes ≡ p
+IsAfterBand o p (Mid mid) = Partway o p mid
 
 -- sixteen rows more are done, and some are left or none. Side and limit stay
 abbrev pub GoesOn : Image → Image → Type 0

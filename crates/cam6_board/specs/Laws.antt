@@ -9,8 +9,8 @@ use Rattle.cam6_board.specs.declared.boards.BandEnd.TheVariants.{LastEnd}
 use Rattle.cam6_board.specs.Images.{is_rest}
 use Rattle.cam6_board.specs.Jobs.{StoredJob}
 use Rattle.cam6_board.specs.Bands.{Moves}
-use Rattle.cam6_board.specs.Running.{Banded, AreBands, job_behind, bands_of_step, bands_left}
-use Rattle.cam6_board.specs.Standing.{GoesAlong, IsStepsOn, steps_behind}
+use Rattle.cam6_board.specs.Running.{Banded, AreBands, job_after, bands_of_step, bands_left}
+use Rattle.cam6_board.specs.Standing.{GoesAlong, IsStepsOn, steps_after}
 
 -- a band of a job that goes along a machine's cycle takes it on as the machine moves: within a step
 -- it is as many steps on as before, and after one, done or undone, it is one more
@@ -19,7 +19,7 @@ BandsFollowTheMachine =
     (m : Machine) (tables : List (List ℕ)) (n : ℕ) (before after : StoredJob) (end : BandEnd) →
     IsMachine m → GoesAlong m tables before → IsStepsOn m n before →
     Moves tables before end after →
-    GoesAlong m tables after × IsStepsOn m (steps_behind end n) after
+    GoesAlong m tables after × IsStepsOn m (steps_after end n) after
 
 -- the bands of so many steps, one after another from rest, are these steps by the words of the
 -- rules, or these steps undone, and the image is at rest after them
@@ -29,8 +29,8 @@ BandsAreSteps =
     (bands : List Banded) →
     IsMachine m → GoesAlong m tables job → IsStepsOn m n job → is_rest job.image ≡ true →
     AreBands tables job bands → length bands * band ≡ steps * side_number m.side →
-    (is_rest (job_behind job bands).image ≡ true)
-    × IsStepsOn m (n + steps) (job_behind job bands)
+    (is_rest (job_after job bands).image ≡ true)
+    × IsStepsOn m (n + steps) (job_after job bands)
 
 -- each band leaves one band less, and ends as the last one exactly if no step is to be done then
 abbrev pub EachBandIsOneLess : Type 0
@@ -46,4 +46,4 @@ JobsEnd =
     (tables : List (List ℕ)) (job : StoredJob) (bands : List Banded) →
     is_rest job.image ≡ true → AreBands tables job bands →
     let all = job.steps * bands_of_step job in
-    (length bands ≤ all) × (((job_behind job bands).steps ≡ 0) ↔ (length bands ≡ all))
+    (length bands ≤ all) × (((job_after job bands).steps ≡ 0) ↔ (length bands ≡ all))

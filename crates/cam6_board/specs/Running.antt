@@ -19,9 +19,9 @@ AreBands tables job (one ∷ later) =
     (0 < job.steps) × Moves tables job one.end one.job × AreBands tables one.job later
 
 -- the job after them
-abbrev pub job_behind : StoredJob → List Banded → StoredJob
-job_behind job [] = job
-job_behind job (one ∷ later) = job_behind one.job later
+abbrev pub job_after : StoredJob → List Banded → StoredJob
+job_after job [] = job
+job_after job (one ∷ later) = job_after one.job later
 
 -- the bands of one step of a job
 abbrev pub bands_of_step : StoredJob → ℕ

@@ -27,7 +27,7 @@ pub record IsStepsOn (m : Machine) (n : ℕ) (job : StoredJob) : Type 0 where
       (moved job.direction (n + 1) m).planes job.image
 
 -- how many steps on a job is after a band, if it was n steps on before
-abbrev pub steps_behind : BandEnd → ℕ → ℕ
-steps_behind Inside n = n
-steps_behind StepEnd n = n + 1
-steps_behind LastEnd n = n + 1
+abbrev pub steps_after : BandEnd → ℕ → ℕ
+steps_after Inside n = n
+steps_after StepEnd n = n + 1
+steps_after LastEnd n = n + 1

@@ -27,7 +27,7 @@ impl Drop for Image {
 
 impl Image {
     ghost use Rattle.cam6_board.specs.Images.{planes_in, rows_of, is_rest, IsOnTheWay};
-    ghost use Rattle.cam6_board.specs.Images.{IsBehindBand, GoesOn};
+    ghost use Rattle.cam6_board.specs.Images.{IsAfterBand, GoesOn};
 
     /// The largest side that the image may have.
     pub fn limit(&self) -> Side
@@ -88,7 +88,7 @@ impl Image {
         // From whatever planes the step began.
         ensures planes { let s = width (planes_in self) in (o : Cells) →
             IsOnTheWay o (step_by s (values_of tables.now) o) self →
-            IsBehindBand o (step_by s (values_of tables.now) o) result }
+            IsAfterBand o (step_by s (values_of tables.now) o) result }
         ensures goes_on { GoesOn self result }
     {
         match self.into_step(tables).band_in(tables, scratch) {
@@ -103,7 +103,7 @@ impl Image {
         // From whatever planes the step began.
         ensures planes { IsTrue result → let s = width (planes_in self.old) in (o : Cells) →
             IsOnTheWay o (step_by s (values_of tables.now) o) self.old →
-            IsBehindBand o (step_by s (values_of tables.now) o) self.new }
+            IsAfterBand o (step_by s (values_of tables.now) o) self.new }
         ensures goes_on { IsTrue result → GoesOn self.old self.new }
         ensures stays { result ≡ false → self.new ≡ self.old }
     {

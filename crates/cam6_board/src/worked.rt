@@ -3,7 +3,7 @@ ghost use Rattle.std.specs.Prelude.{◌≡◌};
 ghost use Rattle.cam6_planes.specs.Cells.{Cells};
 ghost use Rattle.cam6_planes.specs.Stored.{width};
 ghost use Rattle.cam6_band.specs.ByTables.{step_by, values_of};
-ghost use Rattle.cam6_board.specs.Images.{planes_in, IsOnTheWay, IsBehindBand, GoesOn};
+ghost use Rattle.cam6_board.specs.Images.{planes_in, IsOnTheWay, IsAfterBand, GoesOn};
 
 use crate::images::Image;
 use cam6_band::{EntryTables, Scratch};
@@ -60,7 +60,7 @@ impl Worked {
         // From whatever planes the step began.
         ensures planes { let s = width (planes_in self.old) in (o : Cells) →
             IsOnTheWay o (step_by s (values_of tables.now) o) self.old →
-            IsBehindBand o (step_by s (values_of tables.now) o) self.new }
+            IsAfterBand o (step_by s (values_of tables.now) o) self.new }
         ensures goes_on { GoesOn self.old self.new }
     {
         let Some(image) = &mut self.image else {

@@ -18,7 +18,7 @@ pub none_yet : (s : State) → GoThrough s [] [] s
 unfolding GoThrough
 none_yet s = refl
 
--- an event before the others, and one behind them
+-- an event before the others, and one after them
 pub one_before : (old mid new : State) (es : List Event) (rs : List Outcome) (e : Event)
     (r : Outcome) → Goes old e r mid → LoadsTables e r old mid → Spares e old mid →
     GoThrough mid es rs new → GoThrough old (e ∷ es) (r ∷ rs) new

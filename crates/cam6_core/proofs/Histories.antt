@@ -308,16 +308,16 @@ same_length (e ∷ es) [] a are = refl
 same_length (e ∷ es) (r ∷ rs) a are =
     same_length es rs (after_one a e r) are.1 ∙ (one_of_models a 0 e r are.0).long
 
--- one gain behind another
+-- one gain after another
 both_gains : (p q t : User) (cs ds : List Command) (xs ys : List Reply) → Gains p q cs xs →
     Gains q t ds ys → Gains p t (cs ++ ds) (xs ++ ys)
-both_gains p q t cs ds xs ys before behind = record {
-  limit = behind.limit ∙ before.limit;
-  asks = behind.asks ∙ ap (λ l. l ++ ds) before.asks ∙ append_assoc (asked p) cs ds;
-  gets = behind.gets ∙ ap (λ l. l ++ ys) before.gets ∙ append_assoc (told p) xs ys;
+both_gains p q t cs ds xs ys before after = record {
+  limit = after.limit ∙ before.limit;
+  asks = after.asks ∙ ap (λ l. l ++ ds) before.asks ∙ append_assoc (asked p) cs ds;
+  gets = after.gets ∙ ap (λ l. l ++ ys) before.gets ∙ append_assoc (told p) xs ys;
 }
 
--- behind all events
+-- after all events
 pub gains_all : (es : List Event) (rs : List Outcome) (a : Model) (u : ℕ) →
     IsNumber (length a.users) u → AreTheModels a es rs →
     Gains (user a.users u) (user (after_all a es rs).users u) (commands u es rs) (given u es rs)

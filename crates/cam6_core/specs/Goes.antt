@@ -6,7 +6,7 @@ use Rattle.cam6_commands.specs.declared.commands.Command.{Command}
 use Rattle.cam6_machine.specs.Stored.{machine_of}
 use Rattle.cam6_model.specs.Memory.{may_want_memory}
 use Rattle.cam6_station.specs.Held.{Manned, loaded}
-use Rattle.cam6_station.specs.Loading.{IsBehindLoads}
+use Rattle.cam6_station.specs.Loading.{IsAfterLoads}
 use Rattle.cam6_core.specs.State.{State, at_number}
 use Rattle.cam6_core.specs.Refusals.{standing, refusal}
 use Rattle.cam6_core.specs.Model.{Model, transition}
@@ -52,7 +52,7 @@ Goes old e r new = Obeys (refusal (standing old) e) old e r new
 
 -- a lease asks for the tables that the user's command needs, in the order of their uses
 abbrev pub LoadsFor : Option Whereabouts → Cached → Cached → Type 0
-LoadsFor (Some (Queued q)) old new = IsBehindLoads q.work old new
+LoadsFor (Some (Queued q)) old new = IsAfterLoads q.work old new
 LoadsFor x old new = ⊥
 
 -- a lease does so; nothing is said here about any other event

@@ -6,7 +6,7 @@ ghost use Rattle.cam6_slot.specs.Leases.{JobFits};
 ghost use Rattle.cam6_slot.specs.Lefts.{lease_left};
 ghost use Rattle.cam6_station.specs.Calls.{BandGives, PreemptGives, FailGives, is_lost};
 ghost use Rattle.cam6_station.specs.Held.{idle, dead, IsLoaded, IsAlive};
-ghost use Rattle.cam6_station.specs.Loading.{IsBehindLoads};
+ghost use Rattle.cam6_station.specs.Loading.{IsAfterLoads};
 ghost use Rattle.cam6_core.specs.Refusals.{standing, is_missing};
 ghost use Rattle.cam6_core.specs.State.{at_number, with_user, with_board, board_of, IsNumber};
 ghost use Rattle.cam6_core.specs.Internal.Returning.{IsLoadedWith, IsOfUser, IsOfUserIf};
@@ -64,7 +64,7 @@ impl Core {
         ensures users { self.new.users ≡ self.old.users }
         ensures others { self.new.boards
             ≡ slice_set self.old.boards board (board_of self.new board) }
-        ensures loads { IsBehindLoads lease.work self.old.cache self.new.cache }
+        ensures loads { IsAfterLoads lease.work self.old.cache self.new.cache }
         ensures tables { AreTrue self.new.cache.tables }
         ensures capacity { self.new.cache.capacity ≡ self.old.cache.capacity }
     {

@@ -78,11 +78,11 @@ split_at direction (suc k) (entry ∷ entries) past h =
     ap (λ n. own ++ before
     ++ (a ++ b ++ tables_needed direction (drop n (entry ∷ entries)))) long
 
--- what stands behind a front of a list
-behind : (front back : List NeededTable) (item : NeededTable) →
+-- what stands after a front of a list
+later : (front back : List NeededTable) (item : NeededTable) →
     slice_get (front ++ (item ∷ back)) (length front) ≡ Some item
-behind [] back item = refl
-behind (first ∷ front) back item = behind front back item
+later [] back item = refl
+later (first ∷ front) back item = later front back item
 
 module _ (direction : Direction) (entries : List Entry) (position : ℕ) (past : Entry)
     (within : position < length entries) where
@@ -99,7 +99,7 @@ module _ (direction : Direction) (entries : List Entry) (position : ℕ) (past :
       ap (λ l. slice_get l (length before))
       (split_at direction position entries past within ∙
       ap (λ a. before ++ (needed_for direction A a ++ b ++ after)) is) ∙
-      behind before (b ++ after) (record { half = A; rule = rule; direction = direction })
+      later before (b ++ after) (record { half = A; rule = rule; direction = direction })
 
   pub second_table : (rule : HalfRule) → (get_or entries position past).b ≡ Some rule →
       slice_get (tables_needed direction entries)
@@ -118,7 +118,7 @@ module _ (direction : Direction) (entries : List Entry) (position : ℕ) (past :
       sym (append_assoc before a (needed_for direction B (Some rule) ++ after))) ∙
       ap (slice_get ((before ++ a) ++ (needed_for direction B (Some rule) ++ after)))
       (sym (length-append before a)) ∙
-      behind (before ++ a) after (record { half = B; rule = rule; direction = direction })
+      later (before ++ a) after (record { half = B; rule = rule; direction = direction })
 
 -- a half without a rule needs no table, and one with a rule needs one
 pub some-length : (direction : Direction) (half : Half) (rule : Option HalfRule) →

@@ -35,10 +35,10 @@ HaveTheirTables =
     (direction : Direction) (entries : List Entry) (position : ℕ) (entry : Entry) →
     slice_get entries position ≡ Some entry →
     let before = length (tables_needed direction (take position entries)) in
-    let behind_a = before + length (needed_for direction A entry.a) in
+    let after_a = before + length (needed_for direction A entry.a) in
     ((rule : HalfRule) → entry.a ≡ Some rule →
     slice_get (tables_needed direction entries) before
     ≡ Some (record { half = A; rule = rule; direction = direction })) ×
     ((rule : HalfRule) → entry.b ≡ Some rule →
-    slice_get (tables_needed direction entries) behind_a
+    slice_get (tables_needed direction entries) after_a
     ≡ Some (record { half = B; rule = rule; direction = direction }))

@@ -115,7 +115,7 @@ module _ (w : Wiring) (parts : List Part) where
             mode = refl;
           }
 
-  -- one more item behind those before it, in the innermost body that is open: its tokens follow, it
+  -- one more item after those before it, in the innermost body that is open: its tokens follow, it
   -- may stand there, and the state has its words and its size
   one_item : (u : Unfinished) (name : Token) (open_ifs : List OpenIf) (before item : Body)
       (t : Token) (s1 : State) → AreBefore w parts → kind_of name ≡ kind.Other →

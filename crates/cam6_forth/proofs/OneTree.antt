@@ -129,7 +129,7 @@ module _ (wiring : Wiring) (known : List Defined) (parts : List Part) (name : To
       body rest open_ifs (join said (Cases words End)) ok.1 ∙
       ap (after parts name open_ifs) (join-assoc said (Cases words End) rest)
 
--- definitions behind others
+-- definitions after others
 all_parts : (wiring : Wiring) (known : List Defined) (before parts : List Part) →
     AreDefinitions wiring known parts →
     written_on (Whole before) (spell parts) ≡ Whole (before ++ parts)

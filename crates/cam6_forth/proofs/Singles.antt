@@ -61,10 +61,10 @@ placed_first start name definition later true position size named found rest =
       omega (arith, is),
     )
 placed_first start name definition later false position size named found rest =
-    let (before, here, behind, split, at, is_named, none, is) = rest found in (
+    let (before, here, after, split, at, is_named, none, is) = rest found in (
       definition ∷ before,
       here,
-      behind,
+      after,
       ap (λ l. definition ∷ l) split,
       omega (arith, at),
       is_named,

@@ -53,7 +53,7 @@ impl Model for BoardSeat {
 
 impl BoardSeat {
     ghost use Rattle.cam6_slot.specs.Leases.{TablesFit};
-    ghost use Rattle.cam6_station.specs.Loading.{IsBehindLoads};
+    ghost use Rattle.cam6_station.specs.Loading.{IsAfterLoads};
     ghost use Rattle.cam6_handoff.specs.Holding.{IsIdle, emptied};
     ghost use Rattle.cam6_commands.specs.Limits.{max_users};
     ghost use Rattle.cam6_handoff.specs.Seats.{TakeGives, Accepts, AcceptsDone};
@@ -120,7 +120,7 @@ impl BoardSeat {
     pub fn fill(&mut self, lease: &Lease, cache: &mut TableCache)
         ensures tables { TablesFit lease.now.work self.new.tables }
         ensures others { self.new ≡ record self.old { tables = self.new.tables } }
-        ensures loads { IsBehindLoads lease.now.work cache.old cache.new }
+        ensures loads { IsAfterLoads lease.now.work cache.old cache.new }
     {
         self.filling.fill(cache, lease);
     }

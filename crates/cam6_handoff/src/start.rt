@@ -6,8 +6,8 @@ ghost use Rattle.cam6_commands.specs.Limits.{max_users, max_boards};
 ghost use Rattle.cam6_commands.specs.declared.limits.TheConstants.{MAX_USERS, MAX_BOARDS};
 ghost use Rattle.cam6_handoff.specs.Desks.{IsBlankDesk};
 ghost use Rattle.cam6_handoff.specs.Boot.{AreBlankDesks, AreIdleSeats, IsSeatOf};
-ghost use Rattle.cam6_handoff.specs.Internal.Cutting.{IsFirstOf, behind_desk, new_desk};
-ghost use Rattle.cam6_handoff.specs.Internal.Cutting.{behind_board, new_board};
+ghost use Rattle.cam6_handoff.specs.Internal.Cutting.{IsFirstOf, after_desk, new_desk};
+ghost use Rattle.cam6_handoff.specs.Internal.Cutting.{after_board, new_board};
 ghost use Rattle.cam6_handoff.specs.declared.rule.View.TheVariants.{First};
 
 use crate::desks::{Desk, HandTable, desk_of};
@@ -28,7 +28,7 @@ use std::sync::Arc;
 struct DeskCut;
 
 impl Split<View> for DeskCut {
-    ghost left = { behind_desk };
+    ghost left = { after_desk };
 
     ghost right = { new_desk };
 }
@@ -36,7 +36,7 @@ impl Split<View> for DeskCut {
 struct BoardCut;
 
 impl Split<View> for BoardCut {
-    ghost left = { behind_board };
+    ghost left = { after_board };
 
     ghost right = { new_board };
 }

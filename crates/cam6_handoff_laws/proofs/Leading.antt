@@ -39,7 +39,7 @@ module _ (a : Model) where
   pub put_there : (b : ℕ) (s t : Seat) → HasSeat a b s → slice_get (set a.boards b t) b ≡ Some t
   put_there b s t has = set_here a.boards b t (within a.boards b s has)
 
-  -- what an event comes to is told by the model behind it
+  -- what an event comes to is told by the model after it
   pub led : (e : Event) (r : Outcome) (u word : ℕ) (slot : Slot) (new : Model) (y : User) →
       ((no_table : Bool) → refusal (model_standing a no_table) e ≡ None) → transition a e ≡ (new, r) →
       user new.users u ≡ y → Says (machine_of y) word slot y.stage → LeadsTo a e r u word slot

@@ -12,7 +12,7 @@ pub mod Refusing
 pub mod StepLaws
 -- What isn't refused leaves a machine; the blank one is one; and a machine's rules run.
 pub mod Staying
--- Rules that are defined one after another, each under a new name, behind those that are there.
+-- Rules that are defined one after another, each under a new name, after those that are there.
 pub mod LoadedRules
 -- What is found of a saved machine, part by part: it is one, or a load is refused.
 pub mod SavedParts

@@ -1,4 +1,4 @@
--- Rules that are defined one after another, each under a new name, behind those that are there.
+-- Rules that are defined one after another, each under a new name, after those that are there.
 use Rattle.std.proofs.Common.{◌≡◌, ◌≤◌, ◌<◌, ℕ, List, [], ◌∷◌, ◌++◌, Bool, true, false, ◌&&◌, cond}
 use Rattle.std.proofs.Common.{Option, Some, None, refl, sym, ap, ◌∙◌, subst, append_assoc}
 use Rattle.std.proofs.Common.{append-nil, is_none, length, nat_le, arith}
@@ -73,7 +73,7 @@ pub one_is_none : (before : List Rule) (rule : Rule) (rules : List Rule) →
 one_is_none before rule rules is =
     ap (λ b. b && are_rules_after (before ++ rule ∷ []) rules) is
 
--- what a rule behind others says: its name is new, and neither it nor its words are refused
+-- what a rule after others says: its name is new, and neither it nor its words are refused
 pub record MayFollow (before : List Rule) (rule : Rule) : Type 0 where
   pub new : rule_named rule.name before ≡ None
   pub free : rule_refusal before [] rule.name ≡ None

@@ -5,7 +5,7 @@ use Rattle.std.proofs.Common.{Ok, length, cond, refl, sym, ap, arith, append_ass
 use Rattle.std.specs.Prelude.{decimal, codes, ◌==◌, nat_lt, nat_le, if◌then◌else◌, option_and_then}
 use Rattle.std.proofs.lemmas.Bool.{ltb-true, ltb-false, le-ltb, lt-ltb, le-leb}
 use Rattle.cam6_patterns.specs.Pattern.{most_cells}
-use Rattle.cam6_patterns.specs.Header.{past_blanks, number_behind, number_at_front}
+use Rattle.cam6_patterns.specs.Header.{past_blanks, number_after, number_at_front}
 use Rattle.cam6_patterns.specs.Header.{after_sign, extent_at_front, ends_header, extents_in}
 use Rattle.cam6_patterns.specs.Writing.{header}
 use Rattle.cam6_patterns.specs.Body.{nothing_read}
@@ -15,38 +15,38 @@ use Rattle.cam6_patterns.proofs.PartsRead.{digits_by, decimal_is}
 use Rattle.cam6_patterns.proofs.LinesRead.{NoLf}
 use Rattle.cam6_patterns.proofs.SignsRead.{number_without_lf}
 
--- a digit behind a number
-digit_behind : (n byte : ℕ) (rest : List ℕ) → 48 ≤ byte → byte < 58
-    → number_behind n (byte ∷ rest) ≡ number_behind (10 * n + (byte - 48)) rest
-digit_behind n byte rest low high =
+-- a digit after a number
+digit_after : (n byte : ℕ) (rest : List ℕ) → 48 ≤ byte → byte < 58
+    → number_after n (byte ∷ rest) ≡ number_after (10 * n + (byte - 48)) rest
+digit_after n byte rest low high =
     let from : nat_le 48 byte ≡ true = le-leb 48 byte low in
     let to : nat_lt byte 58 ≡ true = lt-ltb byte 58 high in
     rw (from, to) refl
 
--- a number's digits are read back, whatever comes behind them
-digits_behind : (k n : ℕ) (rest : List ℕ) → n < k
-    → number_behind 0 (digits_by k n ++ rest) ≡ number_behind n rest
-digits_behind zero n rest fuel = absurd (omega (arith, fuel))
-digits_behind (suc k) n rest fuel =
+-- a number's digits are read back, whatever comes after them
+digits_after : (k n : ℕ) (rest : List ℕ) → n < k
+    → number_after 0 (digits_by k n ++ rest) ≡ number_after n rest
+digits_after zero n rest fuel = absurd (omega (arith, fuel))
+digits_after (suc k) n rest fuel =
     by_size (nat_lt n 10) refl
-    (λ ten. digits_behind k (n / 10) ((48 + n % 10) ∷ rest) (omega (arith, ten, fuel)))
+    (λ ten. digits_after k (n / 10) ((48 + n % 10) ∷ rest) (omega (arith, ten, fuel)))
   where
     by_size : (t : Bool) → nat_lt n 10 ≡ t
-        → (10 ≤ n → number_behind 0 (digits_by k (n / 10) ++ (48 + n % 10) ∷ rest)
-        ≡ number_behind (n / 10) ((48 + n % 10) ∷ rest))
-        → number_behind 0
+        → (10 ≤ n → number_after 0 (digits_by k (n / 10) ++ (48 + n % 10) ∷ rest)
+        ≡ number_after (n / 10) ((48 + n % 10) ∷ rest))
+        → number_after 0
         (cond t ((48 + n) ∷ []) (digits_by k (n / 10) ++ (48 + n % 10) ∷ []) ++ rest)
-        ≡ number_behind n rest
+        ≡ number_after n rest
     by_size true small front =
         let same : 10 * 0 + (48 + n - 48) ≡ n = omega arith in
-        digit_behind 0 (48 + n) rest (omega arith) (omega (arith, ltb-true n 10 small))
-        ∙ ap (λ m. number_behind m rest) same
+        digit_after 0 (48 + n) rest (omega arith) (omega (arith, ltb-true n 10 small))
+        ∙ ap (λ m. number_after m rest) same
     by_size false large front =
         let same : 10 * (n / 10) + (48 + n % 10 - 48) ≡ n = omega arith in
-        ap (number_behind 0) (append_assoc (digits_by k (n / 10)) ((48 + n % 10) ∷ []) rest)
+        ap (number_after 0) (append_assoc (digits_by k (n / 10)) ((48 + n % 10) ∷ []) rest)
         ∙ front (ltb-false n 10 large)
-        ∙ digit_behind (n / 10) (48 + n % 10) rest (omega arith) (omega arith)
-        ∙ ap (λ m. number_behind m rest) same
+        ∙ digit_after (n / 10) (48 + n % 10) rest (omega arith) (omega arith)
+        ∙ ap (λ m. number_after m rest) same
 
 -- the first digit, and the others
 abbrev BeginsWithDigit : List ℕ → Type 0
@@ -73,7 +73,7 @@ digits_begin (suc k) n fuel =
 
 -- a digit is no blank, and begins a number
 digit_in_front : (byte : ℕ) (later : List ℕ) → 48 ≤ byte → byte < 58
-    → number_at_front (past_blanks (byte ∷ later)) ≡ Some (number_behind 0 (byte ∷ later))
+    → number_at_front (past_blanks (byte ∷ later)) ≡ Some (number_after 0 (byte ∷ later))
 digit_in_front byte later low high =
     let no_space : (byte == 32) ≡ false = ne_eqb byte 32 (omega (arith, low)) in
     let no_tab : (byte == 9) ≡ false = ne_eqb byte 9 (omega (arith, low)) in
@@ -81,19 +81,19 @@ digit_in_front byte later low high =
     let from : nat_le 48 byte ≡ true = le-leb 48 byte low in
     let to : nat_lt byte 58 ≡ true = lt-ltb byte 58 high in
     let same : byte - 48 ≡ 10 * 0 + (byte - 48) = omega arith in
-    rw (no_space, no_tab, no_return, from, to) (ap (λ m. Some (number_behind m later)) same)
+    rw (no_space, no_tab, no_return, from, to) (ap (λ m. Some (number_after m later)) same)
 
 -- a number is read back
 number_in_front : (n : ℕ) (rest : List ℕ) → n ≤ most_cells
-    → number_at_front (past_blanks (decimal n ++ rest)) ≡ Some (number_behind n rest)
+    → number_at_front (past_blanks (decimal n ++ rest)) ≡ Some (number_after n rest)
 number_in_front n rest few =
     let begun : BeginsWithDigit (digits_by (n + 20) n) = digits_begin (n + 20) n (omega arith) in
     let bytes : decimal n ++ rest ≡ begun.0 ∷ (begun.1 ++ rest) =
     ap (λ l. l ++ rest) (decimal_is n few ∙ begun.4) in
     ap (λ l. number_at_front (past_blanks l)) bytes
     ∙ digit_in_front begun.0 (begun.1 ++ rest) begun.2 begun.3
-    ∙ ap (λ l. Some (number_behind 0 l)) (sym (ap (λ l. l ++ rest) begun.4))
-    ∙ ap Some (digits_behind (n + 20) n rest (omega arith))
+    ∙ ap (λ l. Some (number_after 0 l)) (sym (ap (λ l. l ++ rest) begun.4))
+    ∙ ap Some (digits_after (n + 20) n rest (omega arith))
 
 -- the name of a rule, if there is one
 abbrev pub rule_part : List ℕ → List ℕ
@@ -152,13 +152,13 @@ line_without_lf width height rule narrow low one_line =
       ),
     )
 
--- what comes behind the height
+-- what comes after the height
 abbrev ended : ℕ → ℕ × List ℕ → Option (ℕ × ℕ)
 ended width high = if ends_header (past_blanks high.1) then Some (width, high.0) else None
 
--- what comes behind the width
-abbrev height_behind : ℕ × List ℕ → Option (ℕ × ℕ)
-height_behind wide =
+-- what comes after the width
+abbrev height_after : ℕ × List ℕ → Option (ℕ × ℕ)
+height_after wide =
     option_and_then (ended wide.0) (option_and_then (extent_at_front 121) (after_sign 44 wide.1))
 
 -- it says the width and the height
@@ -170,17 +170,17 @@ line_says width height rule narrow low = by_rule (length rule == 0)
         → extents_in (head_line width height (cond t [] (codes ", rule = " ++ rule)))
         ≡ Some (width, height)
     by_rule true =
-        ap (option_and_then height_behind)
+        ap (option_and_then height_after)
         (number_in_front width (codes ", y = " ++ (decimal height ++ [])) narrow)
         ∙ ap (option_and_then (ended width)) (number_in_front height [] low)
     by_rule false =
-        ap (option_and_then height_behind)
+        ap (option_and_then height_after)
         (number_in_front width
         (codes ", y = " ++ (decimal height ++ (codes ", rule = " ++ rule))) narrow)
         ∙ ap (option_and_then (ended width))
         (number_in_front height (codes ", rule = " ++ rule) low)
 
--- the cells come behind it
+-- the cells come after it
 pub line_is_header : (side most width height : ℕ) (rule : List ℕ) → side ≤ most_cells → width ≤ side
     → height ≤ side
     → on_head side most 1 None (head_line width height (rule_part rule))

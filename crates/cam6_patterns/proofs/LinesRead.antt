@@ -19,12 +19,12 @@ use Rattle.cam6_patterns.proofs.Stages.{lines_done}
 abbrev pub NoLf : List ℕ → Type 0
 NoLf bytes = AllByRecursion (λ b. b ≢ 10) bytes
 
--- bytes without an LF stand on the first line of what comes behind them
-pub lines_behind : (bytes text first : List ℕ) (later : List (List ℕ)) → NoLf bytes
+-- bytes without an LF stand on the first line of what comes after them
+pub lines_after : (bytes text first : List ℕ) (later : List (List ℕ)) → NoLf bytes
     → lines text ≡ first ∷ later → lines (bytes ++ text) ≡ (bytes ++ first) ∷ later
-lines_behind [] text first later free is = is
-lines_behind (b ∷ bytes) text first later free is =
-    rw (ne_eqb b 10 free.0) (ap (begin_line b) (lines_behind bytes text first later free.1 is))
+lines_after [] text first later free is = is
+lines_after (b ∷ bytes) text first later free is =
+    rw (ne_eqb b 10 free.0) (ap (begin_line b) (lines_after bytes text first later free.1 is))
 
 -- a text's first line and the later ones
 abbrev pub SomeLine : List ℕ → Type 0
@@ -92,13 +92,13 @@ module _ (side most : ℕ) (b : Bounds) (p : Pattern) where
         (append_read b line part first column r
         ∙ ap (λ x. and_then x (line_read b line first (column + length part))) leads)
 
-    -- behind the end there may be anything
+    -- after the end there may be anything
     part_over : (rows : List (List ℕ)) → line_read b line part column r ≡ Ok (over rows)
         → rest_read (part ++ first) later line column last r ≡ Ok (with_rows p rows)
     part_over rows leads =
         by_part (over rows) leads ∙ lines_done side most later line (with_rows p rows)
 
-    -- or the rest is read behind it
+    -- or the rest is read after it
     part_more : (next : Read) → line_read b line part column r ≡ Ok (more next)
         → rest_read (part ++ first) later line column last r
         ≡ rest_read first later line (column + length part) last next
@@ -114,12 +114,12 @@ module _ (side most : ℕ) (b : Bounds) (p : Pattern) where
   module _ (part : List ℕ) (parts : List (List ℕ)) (r : Read) (rows : List (List ℕ))
       (reads : Reads b (part ∷ parts) r rows)
       (next_read : (next : Read) → Reads b parts next rows → AllRead parts next rows) where
-    -- a part stands on the first line of those behind it
+    -- a part stands on the first line of those after it
     cut : (used : ℕ) → lines (part ++ filled used parts)
         ≡ (part ++ (filled_lines used parts).0) ∷ (filled_lines used parts).1
     cut used =
         let begun : SomeLine (filled used parts) = filled_lines used parts in
-        lines_behind part (filled used parts) begun.0 begun.1 reads.1 begun.2
+        lines_after part (filled used parts) begun.0 begun.1 reads.1 begun.2
 
     -- on the line under way
     here_read : (used line column last : ℕ)

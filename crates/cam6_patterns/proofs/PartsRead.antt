@@ -18,7 +18,7 @@ abbrev pub counting : Read → Option ℕ → Read
 counting r count = record { rows = r.rows; cells = r.cells; count = count }
 
 module _ (b : Bounds) (line : ℕ) where
-  -- bytes behind others are read behind them
+  -- bytes after others are read after them
   pub append_read : (xs ys : List ℕ) (column : ℕ) (r : Read)
       → line_read b line (xs ++ ys) column r
       ≡ and_then (line_read b line xs column r) (line_read b line ys (column + length xs))
@@ -49,7 +49,7 @@ module _ (b : Bounds) (line : ℕ) where
       let high : nat_lt (48 + d) 58 ≡ true = grind (arith, nat_tests) in
       rw (low, high) refl
 
-  -- a digit behind a number
+  -- a digit after a number
   pub digit_read : (r : Read) (count : Option ℕ) (d n column : ℕ) → d < 10 → n ≤ most_cells
       → 10 * (if is_counting count then times count else 0) + d ≡ n
       → line_read b line ((48 + d) ∷ []) column (counting r count) ≡ Ok (more (counting r (Some n)))

@@ -147,7 +147,7 @@ pub record FitsIn (width states : ℕ) (row : List ℕ) : Type 0 where
 
 module _ (b : Bounds) (few : b.states ≤ 16) (narrow : b.width ≤ most_cells) (low : b.height ≤ most_cells)
     (states : ℕ) (known : states ≤ b.states) where
-  -- rows are read behind others, of which so many ends weren't written yet
+  -- rows are read after others, of which so many ends weren't written yet
   abbrev pub RowsRead : ℕ → List (List ℕ) → List (List ℕ) → List ℕ → Type 0
   RowsRead n rows above last =
       (final : List (List ℕ)) × Reads b (row_by_row states n rows) (reading above last) final
@@ -159,7 +159,7 @@ module _ (b : Bounds) (few : b.states ≤ 16) (narrow : b.width ≤ most_cells) 
       (n : ℕ) (above : List (List ℕ)) (last : List ℕ) → (n ≡ 0 → last ≡ [])
       → length above + n + length rows ≤ b.height → RowsRead n rows above last
 
-  -- behind the last row comes the end
+  -- after the last row comes the end
   no_row_read : RowsAreRead []
   no_row_read n above last none room = (
     whole_rows (reading above last),
@@ -199,7 +199,7 @@ module _ (b : Bounds) (few : b.states ≤ 16) (narrow : b.width ≤ most_cells) 
           (laid_more n above last none ∙ ap (λ l. so_far ++ l ∷ []) (sym empty))),
     )
 
-    -- another row comes behind the ends of those before it
+    -- another row comes after the ends of those before it
     some_row_read : RowsRead 1 rows so_far (trimmed row)
         → (final : List (List ℕ))
         × Reads b (row_ends n ++ runs states (trimmed row) ++ row_by_row states 1 rows)

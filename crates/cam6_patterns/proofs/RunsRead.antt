@@ -26,7 +26,7 @@ laid n rows cells = cond (n == 0) rows (rows ++ cells ∷ replicate (n - 1) [])
 module _ (b : Bounds) (few : b.states ≤ 16) (narrow : b.width ≤ most_cells) (low : b.height ≤ most_cells) where
   module _ (states : ℕ) (known : states ≤ b.states) (rows : List (List ℕ))
       (room : length rows < b.height) where
-    -- a run is read behind the cells before it
+    -- a run is read after the cells before it
     run_leads : (before : List ℕ) (n state : ℕ) → state < states → length before + n ≤ b.width
         → Leads b (counted n (letter states state)) (reading rows before)
         (more (reading rows (before ++ replicate n state)))

@@ -51,5 +51,5 @@ module _ (text line rest : List ℕ) (n : ℕ) (within : n ≤ length text) (fre
       let before : n < length text = omega (arith, ap length (sym back ∙ is), length-drop n text) in
       let cut : lf ∷ later ≡ get_or text n 0 ∷ drop (suc n) text =
       sym is ∙ back ∙ drop-cons text n 0 before in
-      let behind : later ≡ drop (suc n) text = cc in
-      rw (front, behind) (line_ends text n before free (stops before))
+      let after : later ≡ drop (suc n) text = cc in
+      rw (front, after) (line_ends text n before free (stops before))

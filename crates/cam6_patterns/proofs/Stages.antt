@@ -9,7 +9,7 @@ use Rattle.cam6_patterns.specs.Faults.{fault}
 use Rattle.cam6_patterns.specs.declared.faults.PatternFault.{PatternFault}
 use Rattle.cam6_patterns.specs.declared.faults.Cause.TheVariants.{NoEnd}
 
--- behind the end there may be anything
+-- after the end there may be anything
 pub lines_done : (side states : ℕ) (ls : List (List ℕ)) (n : ℕ) (p : Pattern)
     → lines_read side states ls n (done p) ≡ Ok p
 lines_done side states [] n p = refl
@@ -37,7 +37,7 @@ module _ (side states n : ℕ) (text line later : List ℕ) (stage : Stage)
 module _ (side states n : ℕ) (text : List ℕ) (p : Pattern) (bounds : Bounds) (read : Read)
     (whole : Result Pattern PatternFault)
     (same : lines_read side states (lines text) n (within p bounds read) ≡ whole) where
-  -- a line of cells, behind which more may come
+  -- a line of cells, after which more may come
   pub cells_more : (line later : List ℕ) → lines text ≡ line ∷ lines later → (next : Read) → whole_line_read bounds (n + 1) line read ≡ Ok (more next)
       → lines_read side states (lines later) (n + 1) (within p bounds next) ≡ whole
   cells_more line later first next leads =

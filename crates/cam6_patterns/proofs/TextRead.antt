@@ -9,7 +9,7 @@ use Rattle.cam6_patterns.specs.Body.{Bounds, nothing_read}
 use Rattle.cam6_patterns.specs.Reading.{before, box, with_rows, and_later, lines_read, pattern_in}
 use Rattle.cam6_patterns.specs.Writing.{filled, row_by_row, pattern_text}
 use Rattle.cam6_patterns.specs.Laws.{AreRowsWithin, IsOneLine, TextIsReadBack}
-use Rattle.cam6_patterns.proofs.LinesRead.{lines_behind, filled_read}
+use Rattle.cam6_patterns.proofs.LinesRead.{lines_after, filled_read}
 use Rattle.cam6_patterns.proofs.RowsRead.{FitsIn, RowsRead, rows_read}
 use Rattle.cam6_patterns.proofs.HeadRead.{rule_part, head_line, header_is_line, line_without_lf}
 use Rattle.cam6_patterns.proofs.HeadRead.{line_is_header}
@@ -29,7 +29,7 @@ module _ (side states most : ℕ) (rule : List ℕ) (rows : List (List ℕ)) (la
   abbrev empty_box : Pattern
   empty_box = box None (width, length rows)
 
-  -- the header, and the lines behind it
+  -- the header, and the lines after it
   abbrev line : List ℕ
   line = head_line width (length rows) (rule_part rule)
 
@@ -48,7 +48,7 @@ module _ (side states most : ℕ) (rule : List ℕ) (rows : List (List ℕ)) (la
   low : length rows ≤ most_cells
   low = omega (arith, fit.high, largest)
 
-  -- the cells behind the header
+  -- the cells after the header
   cells_read : RowsRead bounds few narrow low states known 0 rows [] []
   cells_read =
       rows_read bounds few narrow low states known rows rows_fit 0 [] [] (λ none. refl) (omega arith)
@@ -58,7 +58,7 @@ module _ (side states most : ℕ) (rule : List ℕ) (rows : List (List ℕ)) (la
   unfolding pattern_text
   lines_of_text =
       ap lines (header_is_line width (length rows) rule body)
-      ∙ lines_behind line (10 ∷ body) [] (lines body)
+      ∙ lines_after line (10 ∷ body) [] (lines body)
       (line_without_lf width (length rows) rule narrow low
       (recursion_from_All (λ b. (b ≡ 10) → ⊥) rule one_line)) refl
       ∙ ap (λ l. l ∷ lines body) (append-nil line)

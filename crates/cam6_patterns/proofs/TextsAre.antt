@@ -78,21 +78,21 @@ corner_fits between bytes =
     second column first None other = tt
     second column first (Some row) other = (first, other)
 
-behind_fits : (between : ℕ) (o : Option (List ℕ))
+after_fits : (between : ℕ) (o : Option (List ℕ))
     → Where IsCorner (option_and_then (corner_at_front between) o)
-behind_fits between None = tt
-behind_fits between (Some rest) = corner_fits between rest
+after_fits between None = tt
+after_fits between (Some rest) = corner_fits between rest
 
 remark_fits : (line : List ℕ) → Where IsCorner (corner_in line)
 remark_fits line =
     where_either IsCorner _ _ (position (strip_prefix (codes "#CXRLE ") line))
-    (where_either IsCorner _ _ (behind_fits 32 (strip_prefix (codes "#P ") line))
-    (behind_fits 32 (strip_prefix (codes "#R ") line)))
+    (where_either IsCorner _ _ (after_fits 32 (strip_prefix (codes "#P ") line))
+    (after_fits 32 (strip_prefix (codes "#R ") line)))
   where
     position : (o : Option (List ℕ)) → Where IsCorner (option_and_then
         (λ rest. option_and_then (corner_at_front 44) (after_first (codes "Pos=") rest)) o)
     position None = tt
-    position (Some rest) = behind_fits 44 (after_first (codes "Pos=") rest)
+    position (Some rest) = after_fits 44 (after_first (codes "Pos=") rest)
 
 -- a box on a torus of a side, without rows
 record IsBox (states : ℕ) (p : Pattern) (b : Bounds) : Type 0 where

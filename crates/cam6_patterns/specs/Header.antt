@@ -22,16 +22,16 @@ abbrev pub is_decimal : ℕ → Bool
 is_decimal b = nat_le 48 b && nat_lt b 58
 
 -- the number of n's digits and the digits at the front, and what comes after them
-abbrev pub number_behind : ℕ → List ℕ → ℕ × List ℕ
-number_behind n [] = (n, [])
-number_behind n (b ∷ bytes) =
-    if is_decimal b then number_behind (10 * n + (b - 48)) bytes else (n, b ∷ bytes)
+abbrev pub number_after : ℕ → List ℕ → ℕ × List ℕ
+number_after n [] = (n, [])
+number_after n (b ∷ bytes) =
+    if is_decimal b then number_after (10 * n + (b - 48)) bytes else (n, b ∷ bytes)
 
 -- a number of one digit at least, and what comes after it
 abbrev pub number_at_front : List ℕ → Option (ℕ × List ℕ)
 number_at_front [] = None
 number_at_front (b ∷ bytes) =
-    if is_decimal b then Some (number_behind (b - 48) bytes) else None
+    if is_decimal b then Some (number_after (b - 48) bytes) else None
 
 -- what comes after the first bytes, if the others begin with them
 abbrev pub strip_prefix : List ℕ → List ℕ → Option (List ℕ)

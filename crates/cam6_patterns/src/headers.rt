@@ -3,7 +3,7 @@ ghost use Rattle.std.specs.Prelude.{◌≡◌, ◌<◌, ℕ, Option, MatchOption
 ghost use Rattle.std.specs.Prelude.{codes};
 ghost use Rattle.cam6_patterns.specs.Pattern.{most_cells};
 ghost use Rattle.cam6_patterns.specs.Header.{is_blank, is_decimal, past_blanks, number_at_front};
-ghost use Rattle.cam6_patterns.specs.Header.{number_behind};
+ghost use Rattle.cam6_patterns.specs.Header.{number_after};
 ghost use Rattle.cam6_patterns.specs.Header.{strip_prefix, after_sign, extent_at_front, ends_header};
 ghost use Rattle.cam6_patterns.specs.Header.{extents_in, offset_at_front, corner_at_front};
 ghost use Rattle.cam6_patterns.specs.Header.{after_first, corner_in, if_none};
@@ -163,14 +163,14 @@ fn number_at_front(bytes: &[u8]) -> Option<(usize, &[u8])>
     if !is_decimal(*first) {
         return None;
     }
-    Some(number_behind(usize::from(*first - b'0'), later))
+    Some(number_after(usize::from(*first - b'0'), later))
 }
 
 /// The number of a first digit and the digits at the front, and what comes after them. A large
 /// number is lowered.
-fn number_behind(first: usize, bytes: &[u8]) -> (usize, &[u8])
+fn number_after(first: usize, bytes: &[u8]) -> (usize, &[u8])
     requires { first < 10 }
-    ensures { (n : ℕ) × (number_behind first bytes.now ≡ (n, result.1.now))
+    ensures { (n : ℕ) × (number_after first bytes.now ≡ (n, result.1.now))
         × StandsFor n result.0 }
 {
     let mut number = first;

@@ -43,7 +43,7 @@ byte_column-at bytes i c h =
     let r : (8 * i + c) % 8 ≡ c = omega arith in
     rw (q, r) refl
 
--- a word that takes one more byte behind those that it has
+-- a word that takes one more byte after those that it has
 pub word_more : (bytes : List ℕ) (i k w : ℕ) → k < 8 → get_or bytes (8 * i + k) 0 < 2 ^ 8 →
     ((c : ℕ) → c < 8 * k → word_column w (64 - 8 * k + c) ≡ byte_column bytes (64 * i + c)) →
     (c : ℕ) → c < 8 * (k + 1) →

@@ -18,7 +18,7 @@ torus_at s f p x y h k l =
     ap (λ b. b && f p (x % s) (y % s)) (lt-ltb p 4 h) ∙ ap (λ u. f p u (y % s)) (mod-eq_of_lt k) ∙
     ap (f p x) (mod-eq_of_lt l)
 
--- values behind a test, where they agree if it holds
+-- values after a test, where they agree if it holds
 guarded : (b c d : Bool) → (b ≡ true → c ≡ d) → (b && c) ≡ (b && d)
 guarded true c d h = h refl
 guarded false c d h = refl

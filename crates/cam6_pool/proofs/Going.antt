@@ -125,10 +125,10 @@ fewer_left (loaded u h) dead left gives = absurd gives
 fewer_left (loaded u h) (loaded v k) left gives = omega (arith, gives.2.left)
 
 -- a band that goes on leaves the board alive
-pub more_rises : (y after : Manned) (left before behind : ℕ) → BandGives y (More left) after →
-    Rises false before behind → Rises (is_dead after) before behind
-more_rises y (loaded v k) left before behind gives rises = rises
-more_rises y idle left before behind gives rises = rises
-more_rises (loaded u h) dead left before behind gives rises = absurd gives
-more_rises idle dead left before behind gives rises = absurd gives
-more_rises dead dead left before behind gives rises = absurd gives
+pub more_rises : (y after : Manned) (left before beyond : ℕ) → BandGives y (More left) after →
+    Rises false before beyond → Rises (is_dead after) before beyond
+more_rises y (loaded v k) left before beyond gives rises = rises
+more_rises y idle left before beyond gives rises = rises
+more_rises (loaded u h) dead left before beyond gives rises = absurd gives
+more_rises idle dead left before beyond gives rises = absurd gives
+more_rises dead dead left before beyond gives rises = absurd gives

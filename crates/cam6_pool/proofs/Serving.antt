@@ -30,14 +30,14 @@ holds_nothing (holding u v) idle serves is = absurd serves
 holds_nothing (holding u v) dead serves is = absurd serves
 
 -- a band goes on with what stands for the place
-pub serves_behind : (p : Holding) (s after : Manned) (left : ℕ) → Serves p s →
+pub serves_after : (p : Holding) (s after : Manned) (left : ℕ) → Serves p s →
     BandGives s (More left) after → Serves p after
-serves_behind p idle after left serves gives = absurd gives
-serves_behind p dead after left serves gives = absurd gives
-serves_behind p (loaded w h) idle left serves gives = absurd gives
-serves_behind p (loaded w h) dead left serves gives = absurd gives
-serves_behind nothing (loaded w h) (loaded x k) left serves gives = absurd serves
-serves_behind (holding u v) (loaded w h) (loaded x k) left serves gives =
+serves_after p idle after left serves gives = absurd gives
+serves_after p dead after left serves gives = absurd gives
+serves_after p (loaded w h) idle left serves gives = absurd gives
+serves_after p (loaded w h) dead left serves gives = absurd gives
+serves_after nothing (loaded w h) (loaded x k) left serves gives = absurd serves
+serves_after (holding u v) (loaded w h) (loaded x k) left serves gives =
     λ m c st. gives.2.stands m c (serves m c st)
 
 -- the seat accepts what is finished on its board, which is free

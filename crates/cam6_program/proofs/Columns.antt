@@ -37,7 +37,7 @@ no_line lines line c past =
     length-map units (λ unit. column_bit unit c) in
     sym (get_or_past (at_column c units) line false (omega (arith, long, longer, past)))
 
--- a step writes the first of the slots behind those before it
+-- a step writes the first of the slots after those before it
 pub slot_written : (lines front slots : List Bool) (step : Step) → length front ≡ step.into →
     0 < length slots →
     front ++ with_first lines front step.operation slots ≡ put_into lines step (front ++ slots)

@@ -22,7 +22,7 @@ lines_at c readable = at_column c (map (λ line. line.now) readable.lines.now)
 
 -- what the slots hold; the one that is written is empty
 abbrev pub slots_at : ℕ → Readable → List Bool
-slots_at c readable = at_column c readable.before.now ++ (false ∷ at_column c readable.behind.now)
+slots_at c readable = at_column c readable.before.now ++ (false ∷ at_column c readable.later.now)
 
 -- slots that follow others, after an operation has written the first of them
 abbrev pub with_first : List Bool → List Bool → Operation → List Bool → List Bool

@@ -23,7 +23,7 @@ use cam6_wiring::LINES;
 pub(crate) struct Readable<'a> {
     pub(crate) lines: &'a Lines<'a>,
     pub(crate) before: &'a [Unit],
-    pub(crate) behind: &'a [Unit],
+    pub(crate) later: &'a [Unit],
 }
 
 /// Words of a band at the narrowest side.
@@ -61,8 +61,8 @@ impl<'a> Readable<'a> {
         let written = self.before.len();
         if slot < written {
             &self.before[slot]
-        } else if slot > written && slot - written - 1 < self.behind.len() {
-            &self.behind[slot - written - 1]
+        } else if slot > written && slot - written - 1 < self.later.len() {
+            &self.later[slot - written - 1]
         } else {
             constant(false)
         }
@@ -176,11 +176,11 @@ fn write_first(
         (at_column c (map (λ line. line.now) lines.now)) (at_column c before.now) operation
         (at_column c slots.old) }
 {
-    if let Some((out, behind)) = slots.split_first_mut() {
+    if let Some((out, later)) = slots.split_first_mut() {
         let from = Readable {
             lines: &*lines,
             before,
-            behind,
+            later,
         };
         put_result(out, operation, &from, words);
     }
@@ -319,7 +319,7 @@ fn put_beside(
         let from = Readable {
             lines,
             before: &slots[..into],
-            behind: &slots[into + 1..],
+            later: &slots[into + 1..],
         };
         put_result(out, step.operation, &from, words);
     } else {
@@ -336,7 +336,7 @@ pub(crate) fn put_given(out: &mut Unit, source: Option<Source>, lines: &Lines, s
         let from = Readable {
             lines,
             before: slots,
-            behind: &slots[..0],
+            later: &slots[..0],
         };
         *out = *from.read(source);
     }

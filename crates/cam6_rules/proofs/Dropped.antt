@@ -25,9 +25,9 @@ neither false b e = (refl, e)
 differ : (a b : ℕ) → (a == b) ≡ false → a ≡ b → ⊥
 differ a b e same = cc (e, eq-eqb a b same)
 
--- numbers behind it, and before it
-behind : (number other : ℕ) → number < other → closed_up number other ≡ other - 1
-behind number other h = ap (λ b. cond b (other - 1) other) (lt-ltb number other h)
+-- numbers after it, and before it
+after : (number other : ℕ) → number < other → closed_up number other ≡ other - 1
+after number other h = ap (λ b. cond b (other - 1) other) (lt-ltb number other h)
 
 before : (number other : ℕ) → other ≤ number → closed_up number other ≡ other
 before number other h = ap (λ b. cond b (other - 1) other) (le-ltb number other h)
@@ -36,8 +36,8 @@ closed_up-suc : (number other : ℕ) → closed_up (suc number) (suc other) ≡ 
 closed_up-suc number other =
     elim (dec_lt number other) [
       | Prim.yes lt ↦
-          behind (suc number) (suc other) (omega (arith, lt)) ∙ one_more other (omega (arith, lt)) ∙
-          sym (ap suc (behind number other lt))
+          after (suc number) (suc other) (omega (arith, lt)) ∙ one_more other (omega (arith, lt)) ∙
+          sym (ap suc (after number other lt))
       | Prim.no ge ↦
           before (suc number) (suc other) (omega (arith, ge)) ∙
           sym (ap suc (before number other (omega (arith, ge))))
@@ -92,7 +92,7 @@ get_without name (rule ∷ rules) number other found apart =
     by_test true (suc other) found apart rest =
         let is : 0 ≡ number = cc found in
         subst (λ number. slice_get rules (closed_up number (suc other)) ≡ slice_get rules other) is
-        (ap (slice_get rules) (behind 0 (suc other) (omega arith) ∙ one_less other))
+        (ap (slice_get rules) (after 0 (suc other) (omega arith) ∙ one_less other))
     by_test false other found apart rest =
         by_number (rule_number name rules) other refl found apart rest
 

@@ -142,7 +142,7 @@ module _ (way : Direction) (k : ℕ) (cycle : List Entry) (past : Entry) (within
         by_rule (Some rule) is =
             subst (IsUseOf (Some rule)) (sym (needed.second_table way cycle k past within rule is)) refl
 
-    -- behind them those of the next entry begin
+    -- after them those of the next entry begin
     pub next_index : second_index + bool_byte (is_some entry_at.b)
         ≡ length (tables_needed way (take (k + 1) cycle))
     next_index =

@@ -21,7 +21,7 @@ use Rattle.cam6_commands.specs.declared.refusals.Refusal.{Refusal}
 use Rattle.cam6_commands.specs.declared.refusals.Refusal.TheVariants as refused
 use Rattle.cam6_rules.proofs.Naming.{same_rules}
 
--- an item and those behind it
+-- an item and those after it
 split_at : {X : Type 0} (xs : List X) (n : ℕ) (past : X) → n < length xs →
     drop n xs ≡ get_or xs n past ∷ drop (suc n) xs
 split_at [] n past h = absurd (omega (arith, h))

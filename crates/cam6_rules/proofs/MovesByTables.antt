@@ -114,7 +114,7 @@ one_more_moved Forward n m =
 one_more_moved Backward n m =
     let one : n + 1 ≡ suc n = omega arith in ap (λ k. moved Backward k m) one
 
--- one step more, behind some others
+-- one step more, after some others
 pub one_more_by_tables : (direction : Direction) (m : Machine) (n : ℕ) (entries : List Entry)
     (tables : List (List ℕ)) (step : StepTables) →
     IsMachine m → AreNumbered m.rules entries → m.cycle ≡ named_entries m.rules entries →

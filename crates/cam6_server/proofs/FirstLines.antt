@@ -125,11 +125,11 @@ module _ (said : Result ℕ LineFault) (held : Held)
   exceeds : (line : Line) (all unread : List ℕ) (remaining : Option (List ℕ)) →
       Exceeds line all unread held → FirstSays said (Some all) remaining
   exceeds line all unread remaining (part, is, free, same, long, holds) =
-      let (more, behind, first) =
+      let (more, after, first) =
       first_of part unread free (some_byte held.bytes held.is_long long part holds) (up_to_lf unread) in (
         part ++ more,
-        behind,
-        subst (λ (l : List ℕ). IsFirst l (part ++ more) behind) (sym same) first,
+        after,
+        subst (λ (l : List ℕ). IsFirst l (part ++ more) after) (sym same) first,
         inr (says_too_long held long part more holds),
         says (part ++ more) (still_holds held long part more holds),
       )

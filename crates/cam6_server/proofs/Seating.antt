@@ -22,17 +22,17 @@ went Unheard all line unread out user remaining new d e first asks own still sit
 went (Served end) all line unread out user remaining new d e first asks own still sits =
     (line, unread, user, first, asks, (d, e, own, still, sits))
 
--- the lines that are read then are those behind the first one
+-- the lines that are read then are those after the first one
 pub seated : (visit : Visit) (user : ℕ) (d : Stance)
-    (read behind remaining old new : Option (List ℕ)) → IsDeskOf user d →
-    FirstSays (Ok user) read behind → SitsDownAt user d visit behind remaining old new →
+    (read after remaining old new : Option (List ℕ)) → IsDeskOf user d →
+    FirstSays (Ok user) read after → SitsDownAt user d visit after remaining old new →
     Converses visit read remaining old new
-seated visit user d None behind remaining old new own says sits = tt
-seated visit user d (Some all) behind remaining None new own says sits = tt
-seated visit user d (Some all) behind remaining (Some out) new own
+seated visit user d None after remaining old new own says sits = tt
+seated visit user d (Some all) after remaining None new own says sits = tt
+seated visit user d (Some all) after remaining (Some out) new own
     (line, unread, first, inr long, asks) sits =
     let never : ⊥ = cc in absurd never
-seated visit user d (Some all) behind remaining (Some out) new own
+seated visit user d (Some all) after remaining (Some out) new own
     (line, unread, first, inl left, asks) (e, still, sits) =
     went visit all line unread out user remaining new d e first asks own still
     (subst (λ (b : Option (List ℕ)). SitsDown visit b remaining (Some out) new (machine_at d) (machine_at e))

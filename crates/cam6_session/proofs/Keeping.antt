@@ -41,7 +41,7 @@ is_load line within over = record {
 abbrev at : List ℕ → Bool → Held
 at bytes is_long = record { bytes = bytes; is_long = is_long }
 
--- a line that was too long is too long with any part behind it
+-- a line that was too long is too long with any part after it
 pub grows_long : (bytes part : List ℕ) (is_long : Bool) → is_long ≡ true
     → Grows (at bytes is_long) (at bytes is_long) part
 grows_long bytes part true is line holds = stays_long line part holds

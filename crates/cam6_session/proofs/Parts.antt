@@ -41,7 +41,7 @@ some_line bytes true (y ∷ line) holds e none = cc
 some_line [] false line holds e none = true≢false e
 some_line (x ∷ bytes) false line holds e none = let same = holds.0 ∙ none in cc
 
--- the input ended behind a line that isn't empty, or where a line would begin
+-- the input ended after a line that isn't empty, or where a line would begin
 last_or_none : (kept : Held) (e : Bool) (line all unread : List ℕ) → is_empty kept ≡ e
     → Holds kept line → HasNoLf line → unread ≡ [] → all ≡ line ++ unread
     → ReadsLine (cond e EndOfInput Last) all unread kept

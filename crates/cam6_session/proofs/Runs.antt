@@ -53,7 +53,7 @@ first_is_load (b ∷ line) rest free load =
 
 module _ {S : Type 0} (by : Answering S) where
   -- of a reader with all these bytes some lines have been taken, and a writer with these bytes has
-  -- their answers behind them
+  -- their answers after them
   pub record HasRun (s : S) (all out : List ℕ) (remaining new : Option (List ℕ)) (t : S)
       : Type 0 where
     pub done : List (List ℕ)
@@ -174,7 +174,7 @@ module _ {S : Type 0} (by : Answering S) where
         let at = subst (λ u. Reads read.Ended u after held) run.leaves reads in
         let line = at.2.0 in
         let taken = joined run.done ++ (line ++ 10 ∷ []) in
-        let behind : (rest : List ℕ)
+        let beyond : (rest : List ℕ)
         → lines (taken ++ rest) ≡ (run.done ++ line ∷ []) ++ lines rest =
         λ rest.
         ap lines (append_assoc (joined run.done) (line ++ 10 ∷ []) rest
@@ -182,7 +182,7 @@ module _ {S : Type 0} (by : Answering S) where
         ∙ lines_done (line ++ 10 ∷ rest)
         ∙ ap (λ ls. run.done ++ ls) (split.first_line line rest at.2.1)
         ∙ sym (append_assoc run.done (line ∷ []) (lines rest)) in
-        let are = ap lines (sym (append-nil taken)) ∙ behind []
+        let are = ap lines (sym (append-nil taken)) ∙ beyond []
         ∙ append-nil (run.done ++ line ∷ []) in
         record {
           taken = taken;
@@ -195,7 +195,7 @@ module _ {S : Type 0} (by : Answering S) where
             done = run.done;
             line = line;
             are = are;
-            whole = behind at.0 ∙ ap (λ ls. ls ++ lines at.0) (sym are);
+            whole = beyond at.0 ∙ ap (λ ls. ls ++ lines at.0) (sym are);
           };
           written = run.written;
           writes = run.writes;
@@ -293,7 +293,7 @@ module _ {S : Type 0} (by : Answering S) where
     stops (stop.NoMemory true) responds = finds_none_done responds
     stops (stop.NoMemory false) responds = finds_none_undone responds
 
-    -- or nothing is unread behind it
+    -- or nothing is unread after it
     pub answers_last : took.unread ≡ [] → RespondsTo (Ok tt) held new then t u
         → AnswersReader by end.EndOfInput (Some all) after (Some out) then s u
     answers_last none responds =

@@ -60,7 +60,7 @@ no_ended_line (b ∷ line) free =
     rw (ne_eqb b 10 (All-head (λ x. x ≢ 10) b line free))
     (ap (grow_line b) (no_ended_line line (All-tail (λ x. x ≢ 10) b line free)))
 
--- one more line behind joined lines
+-- one more line after joined lines
 pub joined_more : (done : List (List ℕ)) (line rest : List ℕ)
     → joined (done ++ line ∷ []) ++ rest ≡ joined done ++ (line ++ 10 ∷ rest)
 joined_more [] line rest = append_assoc line (10 ∷ []) rest
@@ -69,7 +69,7 @@ joined_more (first ∷ done) line rest =
     ∙ ap (λ l. first ++ 10 ∷ l) (joined_more done line rest)
     ∙ sym (append_assoc first (10 ∷ joined done) (line ++ 10 ∷ rest))
 
--- the lines of joined lines with something behind them
+-- the lines of joined lines with something after them
 pub lines_joined : (done : List (List ℕ)) (rest : List ℕ) → All HasNoLf done
     → lines (joined done ++ rest) ≡ done ++ lines rest
 lines_joined [] rest free = refl
@@ -86,7 +86,7 @@ ended_lines_joined (line ∷ later) rest free =
     ∙ first_ended_line line (joined later ++ rest) (All-head HasNoLf line later free)
     ∙ ap (λ ls. line ∷ ls) (ended_lines_joined later rest (All-tail HasNoLf line later free))
 
--- lines that an LF ends stay the first ones, whatever stands behind them
+-- lines that an LF ends stay the first ones, whatever stands after them
 begin_lines : (b : ℕ) (ended more : List (List ℕ))
     → (later : List (List ℕ)) × (begin_line b (ended ++ more) ≡ grow_line b ended ++ later)
 begin_lines b [] more = (begin_line b more, refl)

@@ -1,4 +1,4 @@
--- The first line of some bytes, and the lines behind it.
+-- The first line of some bytes, and the lines after it.
 use Rattle.std.proofs.Common.{◌≡◌, ◌<◌, ◌-◌, ◌==◌, get_or, ◌∙◌, ℕ, List, [], ◌∷◌, length, take}
 use Rattle.std.proofs.Common.{Bool, true, false, cond, Option, Some, None, suc, refl, sym, ap, arith, nat_lt}
 use Rattle.std.specs.Prelude.{IfSome}
@@ -13,9 +13,9 @@ cut_or_whole true n b line = refl
 cut_or_whole false n b line = refl
 
 -- a byte in front of a line that isn't empty stays when its LF goes
-strip_behind : (b c : ℕ) (line : List ℕ)
+strip_after : (b c : ℕ) (line : List ℕ)
     → strip_last 10 (b ∷ c ∷ line) ≡ b ∷ strip_last 10 (c ∷ line)
-strip_behind b c line =
+strip_after b c line =
     let longer : suc (suc (length line)) - 1 ≡ suc (length line) = omega arith in
     let long : suc (length line) - 1 ≡ length line = omega arith in
     let some_more : nat_lt 0 (suc (suc (length line))) ≡ true = grind arith in
@@ -32,13 +32,13 @@ begins : (lf : Bool) (c : ℕ) (line : List ℕ)
 begins true c line = refl
 begins false c line = refl
 
-taken_behind : (b c : ℕ) (bytes : List ℕ)
+taken_after : (b c : ℕ) (bytes : List ℕ)
     → strip_last 10 (b ∷ take_through 10 (c ∷ bytes))
     ≡ b ∷ strip_last 10 (take_through 10 (c ∷ bytes))
-taken_behind b c bytes =
+taken_after b c bytes =
     let taken = begins (c == 10) c (take_through 10 bytes) in
     ap (λ l. strip_last 10 (b ∷ l)) taken
-    ∙ strip_behind b c (cond (c == 10) [] (take_through 10 bytes))
+    ∙ strip_after b c (cond (c == 10) [] (take_through 10 bytes))
     ∙ ap (λ l. b ∷ strip_last 10 l) (sym taken)
 
 module _ (b : ℕ) where
@@ -63,7 +63,7 @@ module _ (b : ℕ) where
   unfolding First
   before_others c bytes later =
       ap (begin_line b) later
-      ∙ ap (λ l. l ∷ lines (drop_through 10 (c ∷ bytes))) (sym (taken_behind b c bytes))
+      ∙ ap (λ l. l ∷ lines (drop_through 10 (c ∷ bytes))) (sym (taken_after b c bytes))
 
 -- some bytes are the first line and the rest
 first_and_rest : (b : ℕ) (bytes : List ℕ)

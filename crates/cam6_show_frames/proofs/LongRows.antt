@@ -12,7 +12,7 @@ IsLong columns row = (length row ≡ columns) × AllByRecursion (λ colour. colo
 
 module _ (columns : ℕ) (rows : List (List ℕ)) (i : ℕ) (row : List ℕ) (within : i < length rows)
     (here : row ≡ get_or rows i row) where
-  -- behind a row that is long the others decide
+  -- after a row that is long the others decide
   pub others_decide : length row ≡ columns
       → are_long columns (drop (i + 1) rows) ≡ are_long columns (drop i rows)
   others_decide long =

@@ -1,4 +1,4 @@
--- A row behind those of a frame that is under way.
+-- A row after those of a frame that is under way.
 use Rattle.std.proofs.Common.{◌≡◌, ◌<◌, ◌≤◌, ◌∙◌, ◌++◌, ℕ, List, [], ◌∷◌, length, sym}
 use Rattle.std.proofs.Common.{subst, arith, true, zero, suc, length-append}
 use Rattle.std.proofs.lemmas.Bool.{eqb-true}
@@ -20,15 +20,15 @@ only side row is zero d within = is
 only side row is (suc k) d within = absurd (omega arith)
 
 -- rows that are all of one side and no more than it counts
-record Behind (side : Side) (rows : List (List ℕ)) : Type 0 where
+record After (side : Side) (rows : List (List ℕ)) : Type 0 where
   few : length rows ≤ side_number side
   all : All (IsRowOf side) rows
 
-behind : (rows : List (List ℕ)) (row : List ℕ) (side : Side) → IsUnfinished rows → IsRowOf side row
-    → goes_on rows row ≡ true → Behind side (rows ++ row ∷ [])
-behind [] row side unfinished is on =
+after : (rows : List (List ℕ)) (row : List ℕ) (side : Side) → IsUnfinished rows → IsRowOf side row
+    → goes_on rows row ≡ true → After side (rows ++ row ∷ [])
+after [] row side unfinished is on =
     record { few = omega (arith, side_is_many side); all = only side row is }
-behind (first ∷ rows) row side unfinished is on =
+after (first ∷ rows) row side unfinished is on =
     let long : length row ≡ length first = eqb-true (length row) (length first) on in
     let same : side_number unfinished.0 ≡ side_number side =
     sym ((unfinished.2 0 [] (omega arith)).0) ∙ sym long ∙ is.0 in
@@ -42,10 +42,10 @@ behind (first ∷ rows) row side unfinished is on =
 module _ (rows now : List (List ℕ)) (row : List ℕ) (columns : ℕ) (unfinished : IsUnfinished rows)
     (is : (side : Side) × (columns ≡ side_number side) × IsRowOf side row)
     (on : goes_on rows row ≡ true) (grown : now ≡ rows ++ row ∷ []) where
-  grows : Behind is.0 now
+  grows : After is.0 now
   grows =
-      let P : List (List ℕ) → Type 0 = Behind is.0 in
-      subst P (sym grown) (behind rows row is.0 unfinished is.2 on)
+      let P : List (List ℕ) → Type 0 = After is.0 in
+      subst P (sym grown) (after rows row is.0 unfinished is.2 on)
 
   -- fewer rows than each has columns may become a frame
   pub stays_unfinished : length now < columns → IsUnfinished now

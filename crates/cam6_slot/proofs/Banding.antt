@@ -1,4 +1,4 @@
--- A lease behind a band: with the job behind it, it stands for what it stood for.
+-- A lease after a band: with the job after it, it stands for what it stood for.
 use Rattle.std.proofs.Common.{◌≡◌, ◌∙◌, ◌<◌, ◌≤◌, ◌+◌, ℕ, List, length, refl, sym, ap, subst, arith}
 use Rattle.cam6_planes.specs.Side.{side_number}
 use Rattle.cam6_planes.specs.Stored.{Stored, width}
@@ -13,8 +13,8 @@ use Rattle.cam6_board.specs.declared.images.Image.TheVariants.{Rest, Mid}
 use Rattle.cam6_board.specs.Images.{planes_in, rows_of, GoesOn}
 use Rattle.cam6_board.specs.Jobs.{StoredJob}
 use Rattle.cam6_board.specs.Bands.{Counts, Moves}
-use Rattle.cam6_board.specs.Standing.{GoesAlong, IsStepsOn, steps_behind}
-use Rattle.cam6_board.proofs.Following.{bands_follow, one_more_behind}
+use Rattle.cam6_board.specs.Standing.{GoesAlong, IsStepsOn, steps_after}
+use Rattle.cam6_board.proofs.Following.{bands_follow, one_more_after}
 use Rattle.cam6_commands.specs.declared.commands.Command.{Command}
 use Rattle.cam6_model.specs.Machine.{Machine, IsReversibleCycle}
 use Rattle.cam6_model.specs.Moves.{CanMove}
@@ -68,12 +68,12 @@ module _ (l : StoredLease) (before after : StoredJob) (end : BandEnd) (tables : 
   width_before : width (planes_in before.image) ≡ width l.work.home
   width_before = ap side_number fits.image.alike.side
 
-  -- the lease within a step, and behind one
+  -- the lease within a step, and after one
   abbrev pub inside : StoredLease
   inside = record l { rows = l.rows + band }
 
-  abbrev pub behind : StoredLease
-  behind = record l { work = one_on l.work; rows = 0 }
+  abbrev pub later : StoredLease
+  later = record l { work = one_on l.work; rows = 0 }
 
   still_cycle : after.cycle ≡ l.work.kept.cycle
   still_cycle = moves.cycle ∙ fits.cycle
@@ -84,7 +84,7 @@ module _ (l : StoredLease) (before after : StoredJob) (end : BandEnd) (tables : 
   image_inside : (image : Image) → l.rows + band < width l.work.home →
       GoesOn before.image image → Counts image before end after →
       ImageFits l.work (l.rows + band) image × (after.position ≡ before.position)
-      × (after.steps ≡ before.steps) × ((n : ℕ) → steps_behind end n ≡ n)
+      × (after.steps ≡ before.steps) × ((n : ℕ) → steps_after end n ≡ n)
   image_inside (Rest rest) room goes_on counts =
       absurd (omega (
         arith,
@@ -106,16 +106,16 @@ module _ (l : StoredLease) (before after : StoredJob) (end : BandEnd) (tables : 
     },
     counts.1,
     counts.2,
-    λ n. ap (λ e. steps_behind e n) counts.0,
+    λ n. ap (λ e. steps_after e n) counts.0,
   )
 
-  image_behind : (image : Image) → width l.work.home ≤ l.rows + band →
+  image_after : (image : Image) → width l.work.home ≤ l.rows + band →
       GoesOn before.image image → Counts image before end after →
       ImageFits l.work 0 image
       × (after.position
       ≡ position_after before.direction (length before.cycle) before.position)
-      × (after.steps + 1 ≡ before.steps) × ((n : ℕ) → steps_behind end n ≡ n + 1)
-  image_behind (Mid mid) room goes_on counts =
+      × (after.steps + 1 ≡ before.steps) × ((n : ℕ) → steps_after end n ≡ n + 1)
+  image_after (Mid mid) room goes_on counts =
       absurd (omega (
         arith,
         room,
@@ -123,7 +123,7 @@ module _ (l : StoredLease) (before after : StoredJob) (end : BandEnd) (tables : 
         row_at l.rows before.image fits.image.row,
         width_before,
       ))
-  image_behind (Rest rest) room goes_on counts = (
+  image_after (Rest rest) room goes_on counts = (
     record {
       alike = record {
         side = goes_on.0.side ∙ fits.image.alike.side;
@@ -133,7 +133,7 @@ module _ (l : StoredLease) (before after : StoredJob) (end : BandEnd) (tables : 
     },
     counts.1,
     counts.2,
-    λ n. ap (λ e. steps_behind e n) counts.0 ∙ one_more_behind after.steps n,
+    λ n. ap (λ e. steps_after e n) counts.0 ∙ one_more_after after.steps n,
   )
 
   pub fits_inside : l.rows + band < width l.work.home → JobFits inside after
@@ -147,9 +147,9 @@ module _ (l : StoredLease) (before after : StoredJob) (end : BandEnd) (tables : 
         steps = ap (λ k. k + l.work.reached.steps) on.2 ∙ fits.steps;
       }
 
-  pub fits_behind : width l.work.home ≤ l.rows + band → JobFits behind after
-  fits_behind room =
-      let on = image_behind after.image room moves.goes_on moves.counts in
+  pub fits_after : width l.work.home ≤ l.rows + band → JobFits later after
+  fits_after room =
+      let on = image_after after.image room moves.goes_on moves.counts in
       let len = length l.work.kept.cycle in
       record {
         image = record {
@@ -168,7 +168,7 @@ module _ (l : StoredLease) (before after : StoredJob) (end : BandEnd) (tables : 
 
   module _ (m : Machine) (c : Command) (is : IsWork l.work) (true_tables : TablesFit l.work tables)
       (stands : StandsOut l before m c) where
-    followed : IsStepsOn m (steps_behind end l.work.reached.steps) after
+    followed : IsStepsOn m (steps_after end l.work.reached.steps) after
     followed = (bands_follow m tables l.work.reached.steps before after end stands.work.machine
         (goes_along l before m c tables is true_tables stands) stands.on moves).1
 
@@ -181,9 +181,9 @@ module _ (l : StoredLease) (before after : StoredJob) (end : BandEnd) (tables : 
           on = subst (λ k. IsStepsOn m k after) (on.3 l.work.reached.steps) followed;
         }
 
-    pub stands_behind : width l.work.home ≤ l.rows + band → StandsOut behind after m c
-    stands_behind room =
-        let on = image_behind after.image room moves.goes_on moves.counts in
+    pub stands_after : width l.work.home ≤ l.rows + band → StandsOut later after m c
+    stands_after room =
+        let on = image_after after.image room moves.goes_on moves.counts in
         record {
           work = record {
             machine = stands.work.machine;
@@ -192,6 +192,6 @@ module _ (l : StoredLease) (before after : StoredJob) (end : BandEnd) (tables : 
             home = stands.work.home;
             position = stands.work.position;
           };
-          fits = fits_behind room;
+          fits = fits_after room;
           on = subst (λ k. IsStepsOn m k after) (on.3 l.work.reached.steps) followed;
         }

@@ -8,7 +8,7 @@ pub mod Ending
 pub mod Beginning
 -- A command that a board takes: its job fits the lease.
 pub mod GoingOut
--- A lease behind a band: with the job behind it, it stands for what it stood for.
+-- A lease after a band: with the job after it, it stands for what it stood for.
 pub mod Banding
 -- The rules of which tables are needed: they are kept, and can be undone where they are to be.
 pub mod NeededRules

@@ -32,7 +32,7 @@ HoldsJobOf l empty = ⊥
 HoldsJobOf l (holds job tables) = JobFits l job
 
 module _ (u : ℕ) (l : StoredLease) where
-  -- a lease behind a band
+  -- a lease after a band
   module _ (k : StoredLease)
       (stands : (m : Machine) (c : Command) (before after : StoredJob) (end : BandEnd)
       (tables : List (List ℕ)) → TablesFit l.work tables → StandsOut l before m c →

@@ -17,8 +17,8 @@ key_of need = record {
 
 -- after the load of a key its true table goes first; or it was not there, memory ran out for it, and
 -- nothing changes
-abbrev pub IsBehindLoad : TableKey → Cached → Cached → Type 0
-IsBehindLoad key old new =
+abbrev pub IsAfterLoad : TableKey → Cached → Cached → Type 0
+IsAfterLoad key old new =
     (entries : List ℕ) × IsTrueFor key entries
     × ((new ≡ with_first key entries old) ⊎ ((is_cached key old.tables ≡ false) × (new ≡ old)))
 
@@ -36,15 +36,15 @@ pub record LoadsOne (w : StoredWork) (index : ℕ) (hit : Bool) (old new : Cache
   pub need : Need
   pub is : IsNeed w index need
   pub hits : hit ≡ is_cached (key_of need) old.tables
-  pub load : IsBehindLoad (key_of need) old new
+  pub load : IsAfterLoad (key_of need) old new
 
 -- after the loads of the first n tables that steps need, in the order of their uses
-abbrev pub IsBehindLoadsOf : StoredWork → ℕ → Cached → Cached → Type 0
-IsBehindLoadsOf w zero old new = new ≡ old
-IsBehindLoadsOf w (suc n) old new =
-    (between : Cached) × (need : Need) × IsBehindLoadsOf w n old between × IsNeed w n need
-    × IsBehindLoad (key_of need) between new
+abbrev pub IsAfterLoadsOf : StoredWork → ℕ → Cached → Cached → Type 0
+IsAfterLoadsOf w zero old new = new ≡ old
+IsAfterLoadsOf w (suc n) old new =
+    (between : Cached) × (need : Need) × IsAfterLoadsOf w n old between × IsNeed w n need
+    × IsAfterLoad (key_of need) between new
 
 -- after all of them
-abbrev pub IsBehindLoads : StoredWork → Cached → Cached → Type 0
-IsBehindLoads w old new = IsBehindLoadsOf w (needs_of w) old new
+abbrev pub IsAfterLoads : StoredWork → Cached → Cached → Type 0
+IsAfterLoads w old new = IsAfterLoadsOf w (needs_of w) old new

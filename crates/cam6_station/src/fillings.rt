@@ -29,7 +29,7 @@ impl Model for Filling {
 impl Filling {
     ghost use Rattle.cam6_slot.specs.Leases.{TablesFit};
     ghost use Rattle.cam6_slot.specs.Needs.{needs_of};
-    ghost use Rattle.cam6_station.specs.Loading.{FillsOne, LoadsOne, IsBehindLoads};
+    ghost use Rattle.cam6_station.specs.Loading.{FillsOne, LoadsOne, IsAfterLoads};
 
     /// Tables whose entries may be anything until they are filled.
     pub fn new(alloc: Global) -> Result<Filling, NoMemory> {
@@ -51,7 +51,7 @@ impl Filling {
     /// allocates only for what is newly cached. If that allocation fails nobody sees it.
     pub fn fill(&mut self, cache: &mut TableCache, lease: &Lease)
         ensures tables { TablesFit lease.now.work self.new }
-        ensures loads { IsBehindLoads lease.now.work cache.old cache.new }
+        ensures loads { IsAfterLoads lease.now.work cache.old cache.new }
         ensures capacity { cache.new.capacity ≡ cache.old.capacity }
     {
         for index in 0..lease.needs() {

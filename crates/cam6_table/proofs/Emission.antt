@@ -55,7 +55,7 @@ module _ (wiring : Wiring) (known : List Defined) (codes : List Instructions) wh
       let a = token_code wiring known codes token in
       let z = case_code wiring known codes tokens in
       let result = word_at wiring known token in
-      let behind = in_case (z ++ c) landings (length c) (length tokens) in
+      let remaining = in_case (z ++ c) landings (length c) (length tokens) in
       let own = length_before a (z ++ c) in
       let after : length (a ++ (z ++ c)) - length c ≡ length a + length z =
       omega (arith, length-append a (z ++ c), length-append z c) in
@@ -63,7 +63,7 @@ module _ (wiring : Wiring) (known : List Defined) (codes : List Instructions) wh
       all-append wiring codes (words_in result) (case_words wiring known tokens)
       (in_case c landings (length c) 0)
       ∙ ap (emit_all wiring codes (words_in result)) (emitted-case tokens c landings are.1)
-      ∙ emit-said result behind are.0
+      ∙ emit-said result remaining are.0
       ∙ ap (λ n. in_case (CaseWord n (length (a ++ (z ++ c)) - length c) ∷ (a ++ (z ++ c)))
       landings (length c) (length tokens + 1)) own
       ∙ ap (λ n. in_case (CaseWord (length a) n ∷ (a ++ (z ++ c)))

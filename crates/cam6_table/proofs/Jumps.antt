@@ -11,15 +11,15 @@ use Rattle.cam6_table.specs.Meaning.{then_do}
 use Rattle.cam6_table.specs.Codes.{Lines, last_of, act, exec, steps_of, steps_after}
 
 -- the last of instructions that are kept back to front
-pub last-before : (kept code : List Instruction) (behind : ℕ) (i : Instruction) →
-    reverse kept ≡ code → behind < length code → i ≡ get_or kept behind i →
-    last_of (behind + 1) code ≡ i ∷ last_of behind code
-last-before kept code behind i view within is =
+pub last-before : (kept code : List Instruction) (remaining : ℕ) (i : Instruction) →
+    reverse kept ≡ code → remaining < length code → i ≡ get_or kept remaining i →
+    last_of (remaining + 1) code ≡ i ∷ last_of remaining code
+last-before kept code remaining i view within is =
     let all : length code ≡ length kept = sym (ap length view) ∙ length-reverse kept in
-    let position = length code - (behind + 1) in
+    let position = length code - (remaining + 1) in
     let below : position < length code = omega arith in
-    let mirrored : length kept - 1 - position ≡ behind = omega arith in
-    let next : suc position ≡ length code - behind = omega arith in
+    let mirrored : length kept - 1 - position ≡ remaining = omega arith in
+    let next : suc position ≡ length code - remaining = omega arith in
     let here : get_or code position i ≡ i =
     (ap (λ c. get_or c position i) (sym view) ∙ get_or-reverse kept position i (omega arith) ∙
     ap (λ k. get_or kept k i) mirrored ∙ sym is) in
@@ -27,15 +27,15 @@ last-before kept code behind i view within is =
     ap (λ k. i ∷ drop k code) next
 
 -- fewer of the last ones
-last-fewer : (code : List Instruction) (behind passed : ℕ) → behind ≤ length code →
-    drop passed (last_of behind code) ≡ last_of (behind - passed) code
-last-fewer code behind passed within = drop-drop passed (length code - behind) code ∙ left
+last-fewer : (code : List Instruction) (remaining passed : ℕ) → remaining ≤ length code →
+    drop passed (last_of remaining code) ≡ last_of (remaining - passed) code
+last-fewer code remaining passed within = drop-drop passed (length code - remaining) code ∙ left
   where
-    left : drop (length code - behind + passed) code ≡ last_of (behind - passed) code
-    left = elim (cases_lt behind passed) [
-      | inl past ↦ drop_all (length code - behind + passed) code (omega arith) ∙
-          sym (drop_all (length code - (behind - passed)) code (omega arith))
-      | inr short ↦ (let same : length code - behind + passed ≡ length code - (behind - passed) =
+    left : drop (length code - remaining + passed) code ≡ last_of (remaining - passed) code
+    left = elim (cases_lt remaining passed) [
+      | inl past ↦ drop_all (length code - remaining + passed) code (omega arith) ∙
+          sym (drop_all (length code - (remaining - passed)) code (omega arith))
+      | inr short ↦ (let same : length code - remaining + passed ≡ length code - (remaining - passed) =
           omega arith in ap (λ k. drop k code) same)
     ]
 
@@ -52,19 +52,19 @@ steps-drop shows [] (suc passed) word s = refl
 steps-drop shows (i ∷ code) (suc passed) word s = steps-drop shows code passed word s
 
 -- the first of the last so many instructions is done, and the code goes on
-module _ (shows : Lines) (code : List Instruction) (behind before after : ℕ) (word : Option ℕ)
-    (i : Instruction) (s new : State) (next : Next) (one : behind ≡ before + 1)
+module _ (shows : Lines) (code : List Instruction) (remaining before after : ℕ) (word : Option ℕ)
+    (i : Instruction) (s new : State) (next : Next) (one : remaining ≡ before + 1)
     (within : before ≤ length code) (fewer : after ≡ before - next.passed)
     (front : last_of (before + 1) code ≡ i ∷ last_of before code)
     (done : act shows word i s ≡ Ok (new, next)) where
-  ahead : last_of behind code ≡ i ∷ last_of before code
+  ahead : last_of remaining code ≡ i ∷ last_of before code
   ahead = ap (λ k. last_of k code) one ∙ front
 
   later : drop next.passed (last_of before code) ≡ last_of after code
   later = last-fewer code before next.passed within ∙ ap (λ k. last_of k code) (sym fewer)
 
   pub exec-goes_on :
-      exec shows (last_of behind code) 0 word s ≡ exec shows (last_of after code) 0 next.word new
+      exec shows (last_of remaining code) 0 word s ≡ exec shows (last_of after code) 0 next.word new
   exec-goes_on =
       ap (λ c. exec shows c 0 word s) ahead ∙
       ap (λ r. then_do r (λ d. exec shows (last_of before code) d.1.passed d.1.word d.0)) done ∙
@@ -72,7 +72,7 @@ module _ (shows : Lines) (code : List Instruction) (behind before after : ℕ) (
       ap (λ c. exec shows c 0 next.word new) later
 
   pub steps-go_on :
-      steps_of shows (last_of behind code) 0 word s ≡
+      steps_of shows (last_of remaining code) 0 word s ≡
       suc (steps_of shows (last_of after code) 0 next.word new)
   steps-go_on =
       ap (λ c. steps_of shows c 0 word s) ahead ∙

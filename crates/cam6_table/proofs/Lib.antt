@@ -4,11 +4,11 @@
 pub mod BodyCodes
 -- The code of a body's words in a row is the code of the body.
 pub mod Emission
--- Each word of a tree has what it needs of what stands behind it.
+-- Each word of a tree has what it needs of what stands after it.
 pub mod Needs
 -- Code is no longer than its size allows.
 pub mod Lengths
--- Codes one behind another, and choices between them.
+-- Codes one after another, and choices between them.
 pub mod Segments
 -- The code of a body does what the body means.
 pub mod BodiesDo

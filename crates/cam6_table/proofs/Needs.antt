@@ -1,4 +1,4 @@
--- Each word of a tree has what it needs of what stands behind it.
+-- Each word of a tree has what it needs of what stands after it.
 use Rattle.std.proofs.Common.{◌≡◌, ◌∙◌, ◌<◌, ◌-◌, ℕ, zero, suc, List, [], ◌∷◌, ◌++◌, length, drop}
 use Rattle.std.proofs.Common.{Result, Ok, Err, refl, sym, ap, subst, arith}
 use Rattle.std.proofs.Common.{length-append, slice_index_or}
@@ -23,14 +23,14 @@ use Rattle.cam6_table.proofs.BodyCodes.{body_code, case_code}
 use Rattle.cam6_table.proofs.Emission.{at_code, in_case, all-append, emitted-case, emitted-body}
 use Rattle.cam6_table.proofs.Emission.{added, meant-added}
 
--- words in a row have theirs where those behind have, and those in front before them
+-- words in a row have theirs where those after have, and those in front before them
 have_both : (wiring : Wiring) (codes : List Instructions) (xs ys : List Word) (e : Emitted) →
     HaveTheirs wiring codes xs (emit_all wiring codes ys e) → HaveTheirs wiring codes ys e →
     HaveTheirs wiring codes (xs ++ ys) e
-have_both wiring codes [] ys e front behind = behind
-have_both wiring codes (x ∷ xs) ys e front behind = (
+have_both wiring codes [] ys e front remaining = remaining
+have_both wiring codes (x ∷ xs) ys e front remaining = (
   subst (HasIts wiring codes x) (sym (all-append wiring codes xs ys e)) front.0,
-  have_both wiring codes xs ys e front.1 behind,
+  have_both wiring codes xs ys e front.1 remaining,
 )
 
 module _ (wiring : Wiring) (known : List Defined) (codes : List Instructions)
@@ -146,7 +146,7 @@ module _ (wiring : Wiring) (known : List Defined) (codes : List Instructions)
             (tt, body_has rest c landings are.1),
       )
 
--- a word has what it needs of those behind it
+-- a word has what it needs of those after it
 pub needs_at : (wiring : Wiring) (codes : List Instructions) (words : List Word) (e : Emitted)
     (i : ℕ) (d : Word) → i < length words → HaveTheirs wiring codes words e →
     HasIts wiring codes (slice_index_or words i d) (emit_all wiring codes (drop (suc i) words) e)
@@ -155,7 +155,7 @@ needs_at wiring codes (word ∷ words) e zero d within have = have.0
 needs_at wiring codes (word ∷ words) e (suc i) d within have =
     needs_at wiring codes words e i d (omega (arith, within)) have.1
 
--- a definition's words have theirs, and so have those behind it
+-- a definition's words have theirs, and so have those after it
 pub first_has : (wiring : Wiring) (codes : List Instructions) (definitions : List Defined)
     (i : ℕ) (d : Defined) → i < length definitions →
     AllHaveTheirs wiring codes (drop i definitions) →

@@ -8,38 +8,38 @@ use Rattle.cam6_table.specs.Codes.{act, go}
 use Rattle.cam6_table.specs.Internal.Lanes.{state_at, Stands, IsNext, LeadsTo, IsLeft}
 use Rattle.cam6_table.proofs.Jumps.{exec-goes_on}
 
-module _ (address : ℕ) (code : List Instruction) (i : Instruction) (behind to top after : ℕ)
-    (lanes new : Lanes) (lane : ℕ) (some : 0 < behind) (next : IsNext code behind i)
+module _ (address : ℕ) (code : List Instruction) (i : Instruction) (remaining to top after : ℕ)
+    (lanes new : Lanes) (lane : ℕ) (some : 0 < remaining) (next : IsNext code remaining i)
     (stands : Stands lane after new.floors) where
   -- after an instruction
-  pub still_left : (passed : ℕ) → to ≡ behind - 1 - passed →
+  pub still_left : (passed : ℕ) → to ≡ remaining - 1 - passed →
       act (shown address) None i (state_at lane top lanes)
       ≡ Ok (state_at lane after new, go passed None) →
-      IsLeft address code behind top lanes lane → IsLeft address code to after new lane
+      IsLeft address code remaining top lanes lane → IsLeft address code to after new lane
   still_left passed is done left =
       let place = left.place in
-      let one : behind ≡ behind - 1 + 1 = omega arith in
+      let one : remaining ≡ remaining - 1 + 1 = omega arith in
       record {
         place = omega arith;
         stands = stands;
-        left = sym (exec-goes_on (shown address) code behind (behind - 1) to None i
+        left = sym (exec-goes_on (shown address) code remaining (remaining - 1) to None i
             (state_at lane top lanes) (state_at lane after new) (go passed None) one
             (omega arith) is next done) ∙ left.left;
       }
 
   -- after the head of a case, at the word that is looked for
-  pub left_at_word : (word : ℕ) → to ≤ length code → LeadsTo code (behind - 1) word to →
+  pub left_at_word : (word : ℕ) → to ≤ length code → LeadsTo code (remaining - 1) word to →
       act (shown address) None i (state_at lane top lanes)
       ≡ Ok (state_at lane after new, go 0 (Some word)) →
-      IsLeft address code behind top lanes lane → IsLeft address code to after new lane
+      IsLeft address code remaining top lanes lane → IsLeft address code to after new lane
   left_at_word word within leads done left =
       let place = left.place in
-      let one : behind ≡ behind - 1 + 1 = omega arith in
+      let one : remaining ≡ remaining - 1 + 1 = omega arith in
       record {
         place = within;
         stands = stands;
         left = leads address (state_at lane after new) ∙
-            sym (exec-goes_on (shown address) code behind (behind - 1) (behind - 1) None i
+            sym (exec-goes_on (shown address) code remaining (remaining - 1) (remaining - 1) None i
             (state_at lane top lanes) (state_at lane after new) (go 0 (Some word)) one
             (omega arith) (omega arith) next done) ∙ left.left;
       }

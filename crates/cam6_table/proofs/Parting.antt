@@ -70,32 +70,32 @@ is_for span lane floors is =
     record { low = is.in_place; full = omega arith }
 
 -- what is left to a lane stays if its state is kept
-pub kept_left : (address : ℕ) (code : List Instruction) (behind top : ℕ) (lanes : Lanes)
+pub kept_left : (address : ℕ) (code : List Instruction) (remaining top : ℕ) (lanes : Lanes)
     (after : ℕ) (new : Lanes) (lane : ℕ) → IsKept top lanes after new lane →
-    IsLeft address code behind top lanes lane → IsLeft address code behind after new lane
-kept_left address code behind top lanes after new lane kept left = record {
+    IsLeft address code remaining top lanes lane → IsLeft address code remaining after new lane
+kept_left address code remaining top lanes after new lane kept left = record {
   place = left.place;
   stands = kept.stands;
-  left = ap (outcome_from address code (record { behind = behind; word = None })) kept.same ∙
+  left = ap (outcome_from address code (record { remaining = remaining; word = None })) kept.same ∙
       left.left;
 }
 
 -- what is left to a lane stays where its state does
-pub same_left : (address : ℕ) (code : List Instruction) (behind top : ℕ) (lanes new : Lanes)
+pub same_left : (address : ℕ) (code : List Instruction) (remaining top : ℕ) (lanes new : Lanes)
     (lane : ℕ) → new.floors ≡ lanes.floors → state_at lane top new ≡ state_at lane top lanes →
-    IsLeft address code behind top lanes lane → IsLeft address code behind top new lane
-same_left address code behind top lanes new lane floors same left = record {
+    IsLeft address code remaining top lanes lane → IsLeft address code remaining top new lane
+same_left address code remaining top lanes new lane floors same left = record {
   place = left.place;
   stands = subst (λ (f : Floors). Stands lane top f) (sym floors) left.stands;
-  left = ap (outcome_from address code (record { behind = behind; word = None })) same ∙ left.left;
+  left = ap (outcome_from address code (record { remaining = remaining; word = None })) same ∙ left.left;
 }
 
-pub left_there : (address : ℕ) (code : List Instruction) (behind top to after : ℕ)
-    (lanes : Lanes) (lane : ℕ) → to ≡ behind → after ≡ top →
-    IsLeft address code behind top lanes lane → IsLeft address code to after lanes lane
-left_there address code behind top to after lanes lane to_is after_is left =
+pub left_there : (address : ℕ) (code : List Instruction) (remaining top to after : ℕ)
+    (lanes : Lanes) (lane : ℕ) → to ≡ remaining → after ≡ top →
+    IsLeft address code remaining top lanes lane → IsLeft address code to after lanes lane
+left_there address code remaining top to after lanes lane to_is after_is left =
     subst (λ b. IsLeft address code b after lanes lane) (sym to_is)
-    (subst (λ h. IsLeft address code behind h lanes lane) (sym after_is) left)
+    (subst (λ h. IsLeft address code remaining h lanes lane) (sym after_is) left)
 
 pub never_passes : (v distance : ℕ) → distance ≡ 0 → at_zero v distance 0 ≡ 0
 never_passes zero distance is = is
@@ -109,11 +109,11 @@ pub goes_past : (v distance : ℕ) → v ≡ 0 → at_zero v distance 0 ≡ dist
 goes_past zero distance is = refl
 goes_past (suc v) distance is = cc is
 
-module _ (address : ℕ) (code : List Instruction) (behind to len : ℕ) (lanes new : Lanes)
-    (lane : ℕ) (some : 0 < behind) (full : 1 + end_of lane lanes.floors ≤ len)
+module _ (address : ℕ) (code : List Instruction) (remaining to len : ℕ) (lanes new : Lanes)
+    (lane : ℕ) (some : 0 < remaining) (full : 1 + end_of lane lanes.floors ≤ len)
     (floors : new.floors ≡ lanes.floors)
     (same : state_at lane (len - 1) new ≡ state_at lane (len - 1) lanes)
-    (left : IsLeft address code behind len lanes lane) where
+    (left : IsLeft address code remaining len lanes lane) where
   top : stack_at lane lanes.stacks.rows lanes.floors len
       ≡ value_at lane lanes.stacks.rows (len - 1) ∷
       stack_at lane lanes.stacks.rows lanes.floors (len - 1)
@@ -136,11 +136,11 @@ module _ (address : ℕ) (code : List Instruction) (behind to len : ℕ) (lanes 
       })
 
   -- after an IF
-  pub left_after_if : (distance passed : ℕ) → IsNext code behind (SkipIfZero distance) →
+  pub left_after_if : (distance passed : ℕ) → IsNext code remaining (SkipIfZero distance) →
       at_zero (value_at lane lanes.stacks.rows (len - 1)) distance 0 ≡ passed →
-      to ≡ behind - 1 - passed → IsLeft address code to (len - 1) new lane
+      to ≡ remaining - 1 - passed → IsLeft address code to (len - 1) new lane
   left_after_if distance passed next passes is =
-      still_left address code (SkipIfZero distance) behind to len (len - 1) lanes new lane some next
+      still_left address code (SkipIfZero distance) remaining to len (len - 1) lanes new lane some next
       stands passed is
       (ap (λ (stack : Values). with_top stack (state_at lane len lanes)
       (λ v below. done_so below (go (at_zero v distance 0) None))) top ∙
@@ -148,14 +148,14 @@ module _ (address : ℕ) (code : List Instruction) (behind to len : ℕ) (lanes 
       ap (λ (s : State). done_so s (go passed None)) (sym same)) left
 
   -- at a word of a case
-  pub left_in_case : (count : ℕ) → IsNext code behind (Case count) →
+  pub left_in_case : (count : ℕ) → IsNext code remaining (Case count) →
       value_at lane lanes.stacks.rows (len - 1) < count → to ≤ length code →
-      LeadsTo code (behind - 1) (value_at lane lanes.stacks.rows (len - 1)) to →
+      LeadsTo code (remaining - 1) (value_at lane lanes.stacks.rows (len - 1)) to →
       IsLeft address code to (len - 1) new lane
   left_in_case count next below within leads =
       let i = value_at lane lanes.stacks.rows (len - 1) in
       let index : nat_lt i count ≡ true = grind (arith, nat_tests) in
-      left_at_word address code (Case count) behind to len (len - 1) lanes new lane some next
+      left_at_word address code (Case count) remaining to len (len - 1) lanes new lane some next
       stands i within leads
       (ap (λ (stack : Values). with_top stack (state_at lane len lanes)
       (λ j below. if nat_lt j count then done_so below (go 0 (Some j)) else Err CaseIndex)) top ∙
@@ -164,24 +164,24 @@ module _ (address : ℕ) (code : List Instruction) (behind to len : ℕ) (lanes 
       ap (λ (s : State). done_so s (go 0 (Some i))) (sym same)) left
 
 -- at the head of a word that is looked for
-module _ (address : ℕ) (code : List Instruction) (i : Instruction) (behind len after : ℕ)
-    (s : State) (some : 0 < behind) (within : behind ≤ length code) (next : IsNext code behind i)
+module _ (address : ℕ) (code : List Instruction) (i : Instruction) (remaining len after : ℕ)
+    (s : State) (some : 0 < remaining) (within : remaining ≤ length code) (next : IsNext code remaining i)
     (is : i ≡ CaseWord len after) where
-  one : behind ≡ behind - 1 + 1
+  one : remaining ≡ remaining - 1 + 1
   one = omega arith
 
-  pub word_found : outcome_from address code (record { behind = behind - 1; word = None }) s
-      ≡ outcome_from address code (record { behind = behind; word = Some 0 }) s
+  pub word_found : outcome_from address code (record { remaining = remaining - 1; word = None }) s
+      ≡ outcome_from address code (record { remaining = remaining; word = Some 0 }) s
   word_found =
-      sym (exec-goes_on (shown address) code behind (behind - 1) (behind - 1) (Some 0) i s s
+      sym (exec-goes_on (shown address) code remaining (remaining - 1) (remaining - 1) (Some 0) i s s
       (go 0 None) one (omega arith) (omega arith) next
       (ap (λ (j : Instruction). act (shown address) (Some 0) j s) is))
 
-  pub word_passed : (to word : ℕ) → to ≡ behind - 1 - len →
-      outcome_from address code (record { behind = to; word = Some word }) s
-      ≡ outcome_from address code (record { behind = behind; word = Some (suc word) }) s
+  pub word_passed : (to word : ℕ) → to ≡ remaining - 1 - len →
+      outcome_from address code (record { remaining = to; word = Some word }) s
+      ≡ outcome_from address code (record { remaining = remaining; word = Some (suc word) }) s
   word_passed to word there =
-      sym (exec-goes_on (shown address) code behind (behind - 1) to (Some (suc word)) i s s
+      sym (exec-goes_on (shown address) code remaining (remaining - 1) to (Some (suc word)) i s s
       (go len (Some word)) one (omega arith) there next
       (ap (λ (j : Instruction). act (shown address) (Some (suc word)) j s) is))
 
@@ -196,9 +196,9 @@ if_none true x none = none
 if_none false x none = refl
 
 -- a lane that waits at a place
-module _ (b t behind top : ℕ) (is : IsTrue (b == behind && t == top)) where
-  pub behind_there : b ≡ behind
-  behind_there = grind (arith, nat_tests)
+module _ (b t remaining top : ℕ) (is : IsTrue (b == remaining && t == top)) where
+  pub remaining_there : b ≡ remaining
+  remaining_there = grind (arith, nat_tests)
 
   pub top_there : t ≡ top
   top_there = grind (arith, nat_tests)

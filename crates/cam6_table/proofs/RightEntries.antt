@@ -54,7 +54,7 @@ stands_before : (mask from : ℕ) (entries some : List ℕ) (count end j k : ℕ
 stands_before mask from entries some count end j k next counts lower =
     elim (cases_lt j k) [
       | inl before ↦ before
-      | inr behind ↦ elim (cases_eq k j) [
+      | inr remaining ↦ elim (cases_eq k j) [
         | inl same ↦ omega (arith, lower, ap (slice_index some) same)
         | inr other ↦ omega (arith, lower, next.rising k j (omega arith) counts)
       ]

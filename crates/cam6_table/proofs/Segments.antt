@@ -1,4 +1,4 @@
--- Codes one behind another, and choices between them.
+-- Codes one after another, and choices between them.
 use Rattle.std.proofs.Common.{◌≡◌, ◌+◌, ℕ, zero, suc, List, [], ◌∷◌, ◌++◌}
 use Rattle.std.proofs.Common.{length, refl, sym, ap, ◌∙◌, append_assoc, arith}
 use Rattle.std.proofs.Common.{Option, None, Result, Ok, Err, length-append}

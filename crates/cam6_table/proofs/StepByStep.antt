@@ -67,16 +67,16 @@ spanned_within span after lane floors within is =
 
 -- an instruction more
 pub one_more : (addresses : List ℕ) (code : List Instruction) (set : List ℕ) (from : ℕ)
-    (old : Lanes) (behind : ℕ) (mid : Lanes) (instruction : Instruction) (span after : Span)
-    (new : Lanes) (passed to : ℕ) → behind ≤ length code → 0 < behind →
-    IsNext code behind instruction → to ≡ behind - 1 - passed →
-    GoOn addresses code set from old behind mid →
+    (old : Lanes) (remaining : ℕ) (mid : Lanes) (instruction : Instruction) (span after : Span)
+    (new : Lanes) (passed to : ℕ) → remaining ≤ length code → 0 < remaining →
+    IsNext code remaining instruction → to ≡ remaining - 1 - passed →
+    GoOn addresses code set from old remaining mid →
     StepsIn set addresses instruction span mid after new (Ok passed) →
     GoOn addresses code set from old to new
-one_more addresses code set from old behind mid instruction span after new passed to within some
+one_more addresses code set from old remaining mid instruction span after new passed to within some
     next is goes step = record {
       inside = λ lane below inside left.
-          still_left (slice_index addresses lane) code instruction behind to mid.stacks.len
+          still_left (slice_index addresses lane) code instruction remaining to mid.stacks.len
           new.stacks.len mid new lane some next
           (stands_in after new.stacks.len lane new.floors step.holds (step.floors lane below inside))
           passed is (step.each lane below inside) (goes.inside lane below inside left);

@@ -7,16 +7,16 @@ use Rattle.cam6_table.specs.declared.lanes.Lanes.{Lanes}
 use Rattle.cam6_table.specs.declared.lane_values.TheConstants.{LANES}
 use Rattle.cam6_table.specs.Internal.Lanes.{outcome_from, IsLeft, IsUntouched, AreLeft, AreLeftWith}
 use Rattle.cam6_table.specs.Internal.Sets.{IsIn, IsOut, IsOther}
-use Rattle.cam6_table.proofs.Parting.{left_there, behind_there, top_there}
+use Rattle.cam6_table.proofs.Parting.{left_there, remaining_there, top_there}
 
 -- what is left to a lane stays where nothing is done in it
-pub untouched_left : (address : ℕ) (code : List Instruction) (behind top : ℕ) (lanes new : Lanes)
+pub untouched_left : (address : ℕ) (code : List Instruction) (remaining top : ℕ) (lanes new : Lanes)
     (lane : ℕ) → IsUntouched lanes new lane →
-    IsLeft address code behind top lanes lane → IsLeft address code behind top new lane
-untouched_left address code behind top lanes new lane same left = record {
+    IsLeft address code remaining top lanes lane → IsLeft address code remaining top new lane
+untouched_left address code remaining top lanes new lane same left = record {
   place = left.place;
   stands = same.stands top left.stands;
-  left = ap (outcome_from address code (record { behind = behind; word = None })) (same.state top) ∙
+  left = ap (outcome_from address code (record { remaining = remaining; word = None })) (same.state top) ∙
       left.left;
 }
 
@@ -24,18 +24,18 @@ untouched_left address code behind top lanes new lane same left = record {
 pub all_left : (addresses : List ℕ) (code : List Instruction) (flow : Flow) (places new : Places)
     (lanes : Lanes) → AreLeftWith addresses code flow places lanes →
     ((lane : ℕ) → lane < LANES → IsIn flow.set.mask lane →
-    slice_index new.behinds lane ≡ flow.behind) →
+    slice_index new.remaining_by_lane lane ≡ flow.remaining) →
     ((lane : ℕ) → lane < LANES → IsIn flow.set.mask lane →
     slice_index new.tops lane ≡ lanes.stacks.len) →
     ((lane : ℕ) → lane < LANES → IsOut flow.set.mask lane →
-    slice_index new.behinds lane ≡ slice_index places.behinds lane) →
+    slice_index new.remaining_by_lane lane ≡ slice_index places.remaining_by_lane lane) →
     ((lane : ℕ) → lane < LANES → IsOut flow.set.mask lane →
     slice_index new.tops lane ≡ slice_index places.tops lane) →
     AreLeft addresses code new lanes
-all_left addresses code flow places new lanes left behinds tops others ends = λ lane below.
+all_left addresses code flow places new lanes left remaining_by_lane tops others ends = λ lane below.
     elim (left.each lane below) [
       | inl inside ↦ left_there (slice_index addresses lane) code _ _ _ _ lanes lane
-          (behinds lane below inside) (tops lane below inside) (left.inside lane below inside)
+          (remaining_by_lane lane below inside) (tops lane below inside) (left.inside lane below inside)
       | inr outside ↦ left_there (slice_index addresses lane) code _ _ _ _ lanes lane
           (others lane below outside) (ends lane below outside) (left.outside lane below outside)
     ]
@@ -83,19 +83,19 @@ not_among set those each others inside =
 module _ (addresses : List ℕ) (code : List Instruction) (flow : Flow) (places : Places)
     (lanes : Lanes) (left : AreLeftWith addresses code flow places lanes) where
   -- what is left to others at the place of the flow
-  pub others_left : (behind top there : ℕ) (those : List ℕ) → behind ≡ flow.behind →
+  pub others_left : (remaining top there : ℕ) (those : List ℕ) → remaining ≡ flow.remaining →
       there ≡ top →
       ((lane : ℕ) → lane < LANES → IsOther (slice_index those lane)
-      (slice_index flow.set.mask lane) (slice_index places.behinds lane == behind
+      (slice_index flow.set.mask lane) (slice_index places.remaining_by_lane lane == remaining
       && slice_index places.tops lane == top)) →
       (lane : ℕ) → lane < LANES → IsIn those lane →
-      IsLeft (slice_index addresses lane) code flow.behind there lanes lane
-  others_left behind top there those here ends others lane below inside =
+      IsLeft (slice_index addresses lane) code flow.remaining there lanes lane
+  others_left remaining top there those here ends others lane below inside =
       let other = others lane below in
       let is = other.holds_in inside in
-      let b = slice_index places.behinds lane in
+      let b = slice_index places.remaining_by_lane lane in
       let t = slice_index places.tops lane in
-      let at = behind_there b t behind top is in
-      let end = top_there b t behind top is in
+      let at = remaining_there b t remaining top is in
+      let end = top_there b t remaining top is in
       left_there (slice_index addresses lane) code b t _ _ lanes lane (omega arith) (omega arith)
       (left.outside lane below (other.outside inside))

@@ -20,7 +20,7 @@ use Rattle.cam6_table.specs.Meaning.{then_do, with_stack, with_top, at_zero, at_
 
 -- the last instructions, this many
 abbrev pub last_of : ℕ → List Instruction → List Instruction
-last_of behind code = drop (length code - behind) code
+last_of remaining code = drop (length code - remaining) code
 
 -- the bits on the address lines
 abbrev pub Lines : Type 0

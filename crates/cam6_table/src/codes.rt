@@ -62,12 +62,12 @@ impl Instructions {
         self.back_to_front.len()
     }
 
-    /// The instruction before the last `behind` ones.
-    pub fn before(&self, behind: usize) -> Instruction
-        requires { behind < length self.now }
-        ensures { last_of (behind + 1) self.now ≡ result ∷ last_of behind self.now }
+    /// The instruction before the last `remaining` ones.
+    pub fn before(&self, remaining: usize) -> Instruction
+        requires { remaining < length self.now }
+        ensures { last_of (remaining + 1) self.now ≡ result ∷ last_of remaining self.now }
     {
-        self.back_to_front[behind]
+        self.back_to_front[remaining]
     }
 
     /// Puts an instruction in front.

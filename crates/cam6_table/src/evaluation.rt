@@ -35,16 +35,16 @@ pub fn eval(code: &Code, address: u16, steps: &mut u32) -> Result<u8, RuleFault>
 /// A place in code: how many instructions are left, and which word of a case is looked for, if any.
 #[derive(Clone, Copy, Debug, PartialEq, Eq)]
 pub struct Place {
-    pub behind: usize,
+    pub remaining: usize,
     pub word: Option<usize>,
 }
 
 /// The place where code starts.
 pub fn start(code: &Instructions) -> Place
-    ensures { result ≡ record { behind = length code.now; word = None } }
+    ensures { result ≡ record { remaining = length code.now; word = None } }
 {
     Place {
-        behind: code.len(),
+        remaining: code.len(),
         word: None,
     }
 }
@@ -58,22 +58,22 @@ pub fn run(
     state: &mut State,
     steps: &mut u32,
 ) -> Result<(), RuleFault>
-    requires place { from.behind ≤ length code.now }
-    requires steps { from.behind ≤ steps.old }
+    requires place { from.remaining ≤ length code.now }
+    requires steps { from.remaining ≤ steps.old }
     ensures done { IsOutcome
-        (exec (shown address) (last_of from.behind code.now) 0 from.word state.old)
+        (exec (shown address) (last_of from.remaining code.now) 0 from.word state.old)
         state.new result }
     ensures steps { steps.old ≡ steps.new
-        + steps_of (shown address) (last_of from.behind code.now) 0 from.word state.old }
-    ensures limit { steps.old ≤ steps.new + from.behind }
+        + steps_of (shown address) (last_of from.remaining code.now) 0 from.word state.old }
+    ensures limit { steps.old ≤ steps.new + from.remaining }
 {
-    let mut behind = from.behind;
+    let mut remaining = from.remaining;
     let mut word = from.word;
-    while behind > 0 {
-        behind -= 1;
+    while remaining > 0 {
+        remaining -= 1;
         *steps -= 1;
-        let next = act(word, code.before(behind), address, state)?;
-        behind = behind.saturating_sub(next.passed);
+        let next = act(word, code.before(remaining), address, state)?;
+        remaining = remaining.saturating_sub(next.passed);
         word = next.word;
     }
     Ok(())

@@ -246,17 +246,20 @@ fn run_all(code: &Code, addresses: &LaneValues, scratch: &mut Scratch)
 /// The code's entry at an address, or its fault there. Runs the code on from where its lane is.
 fn entry_in(code: &Code, scratch: &Scratch, lane: usize, address: u16) -> Result<u8, RuleFault>
     requires lane { lane < LANES }
-    requires left { IsLeft address code.now (slice_index scratch.now.places.behinds lane)
+    requires left { IsLeft address code.now (slice_index scratch.now.places.remaining_by_lane lane)
         (slice_index scratch.now.places.tops lane) scratch.now.lanes lane }
     ensures { result ≡ result_at code.now address }
 {
-    let behind = usize::from(scratch.places.behinds[lane]);
-    if behind == 0 {
+    let remaining = usize::from(scratch.places.remaining_by_lane[lane]);
+    if remaining == 0 {
         return Ok(entry_at_end(&scratch.lanes, lane, address));
     }
     let mut state = state_of(&scratch.lanes, lane, usize::from(scratch.places.tops[lane]));
     let mut steps = MAX_EVAL_STEPS;
-    let place = Place { behind, word: None };
+    let place = Place {
+        remaining,
+        word: None,
+    };
     run(code.instructions(), place, address, &mut state, &mut steps)?;
     Ok(entry_of(&state, address))
 }

@@ -22,7 +22,7 @@ use crate::waiting::{LaneQueue, LanesWaiting, waiting_at};
 /// Where each lane waits: so many instructions are left to it, and its stack ends at a row.
 #[derive(Drop)]
 pub struct Places {
-    pub behinds: LaneValues,
+    pub remaining_by_lane: LaneValues,
     pub tops: LaneValues,
 }
 
@@ -31,7 +31,7 @@ pub struct Places {
 #[derive(Drop)]
 pub struct Flow {
     pub set: LaneSet,
-    pub behind: usize,
+    pub remaining: usize,
     pub stops_at: usize,
     pub span: Span,
     /// Whether lanes left it after its span was made. If so, those that are left may have more
@@ -42,29 +42,29 @@ pub struct Flow {
 /// All lanes wait at the start of code.
 pub fn all_at_start(code: &Instructions) -> Places
     requires { length code.now ≤ max_eval_steps }
-    ensures behinds { (lane : ℕ) → lane < LANES →
-        slice_index result.behinds lane ≡ length code.now }
+    ensures remaining_by_lane { (lane : ℕ) → lane < LANES →
+        slice_index result.remaining_by_lane lane ≡ length code.now }
     ensures tops { (lane : ℕ) → lane < LANES → slice_index result.tops lane ≡ 0 }
 {
     Places {
-        behinds: in_all(code.len() as u16),
+        remaining_by_lane: in_all(code.len() as u16),
         tops: in_all(0),
     }
 }
 
-/// Makes a flow of the lanes of a set, with `behind` instructions left to them. It goes on until
+/// Makes a flow of the lanes of a set, with `remaining` instructions left to them. It goes on until
 /// `stops_at` are left. Their stacks end at the row of the lanes at work.
 #[inline(always)]
-pub fn flow_of(set: LaneMask, behind: usize, stops_at: usize, lanes: &Lanes) -> Flow
+pub fn flow_of(set: LaneMask, remaining: usize, stops_at: usize, lanes: &Lanes) -> Flow
     requires limit { lanes.now.stacks.len ≤ ROWS }
     ensures left { (addresses : List ℕ) (code : List Instruction) (places : Places) →
-        AreLeftAt addresses code set behind places lanes.now →
+        AreLeftAt addresses code set remaining places lanes.now →
         AreLeftWith addresses code result places lanes.now }
 {
     Flow {
         span: span_of(&lanes.floors, &set, lanes.stacks.len),
         set: LaneSet::of(set),
-        behind,
+        remaining,
         stops_at,
         was_parted: false,
     }
@@ -84,10 +84,10 @@ pub fn resume(
         AreLeftWith addresses code.now result places.now lanes.new }
 {
     let top = waiting.top.min(ROWS as u16);
-    let those = others_at(&in_all(0), places, waiting.behind, top);
+    let those = others_at(&in_all(0), places, waiting.remaining, top);
     lanes.stacks.len = usize::from(top);
-    let behind = usize::from(waiting.behind).min(code.len());
-    flow_of(those, behind, stops_at, lanes)
+    let remaining = usize::from(waiting.remaining).min(code.len());
+    flow_of(those, remaining, stops_at, lanes)
 }
 
 /// Returns `IN` for a lane that waits at the place and is not in the other set, and 0 for any other
@@ -102,14 +102,14 @@ fn mark_of(other: u16, is_there: bool) -> u16
 /// The lanes that wait where so many instructions are left, with stacks that end at a row, and are
 /// not in a set.
 #[inline(always)]
-pub fn others_at(set: &LaneMask, places: &Places, behind: u16, top: u16) -> LaneMask
+pub fn others_at(set: &LaneMask, places: &Places, remaining: u16, top: u16) -> LaneMask
     ensures { (lane : ℕ) → lane < LANES → IsOther (slice_index result lane)
-        (slice_index set.now lane) (slice_index places.now.behinds lane == behind
+        (slice_index set.now lane) (slice_index places.now.remaining_by_lane lane == remaining
         && slice_index places.now.tops lane == top) }
 {
     let mut those = [0; LANES];
     for lane in 0..LANES {
-        let is_there = (places.behinds[lane] == behind) & (places.tops[lane] == top);
+        let is_there = (places.remaining_by_lane[lane] == remaining) & (places.tops[lane] == top);
         those[lane] = mark_of(set[lane], is_there);
     }
     those
@@ -118,19 +118,19 @@ pub fn others_at(set: &LaneMask, places: &Places, behind: u16, top: u16) -> Lane
 /// Lets the lanes of a set wait with so many instructions left to them and stacks that end at a
 /// row.
 #[inline(always)]
-pub fn wait(places: &mut Places, set: &LaneMask, behind: usize, top: usize)
-    requires behind { behind ≤ max_eval_steps }
+pub fn wait(places: &mut Places, set: &LaneMask, remaining: usize, top: usize)
+    requires remaining { remaining ≤ max_eval_steps }
     requires top { top ≤ ROWS }
-    ensures behinds { (lane : ℕ) → lane < LANES → IsIn set.now lane →
-        slice_index places.new.behinds lane ≡ behind }
+    ensures remaining_by_lane { (lane : ℕ) → lane < LANES → IsIn set.now lane →
+        slice_index places.new.remaining_by_lane lane ≡ remaining }
     ensures tops { (lane : ℕ) → lane < LANES → IsIn set.now lane →
         slice_index places.new.tops lane ≡ top }
-    ensures other_behinds { (lane : ℕ) → lane < LANES → IsOut set.now lane →
-        slice_index places.new.behinds lane ≡ slice_index places.old.behinds lane }
+    ensures other_remaining { (lane : ℕ) → lane < LANES → IsOut set.now lane →
+        slice_index places.new.remaining_by_lane lane ≡ slice_index places.old.remaining_by_lane lane }
     ensures other_tops { (lane : ℕ) → lane < LANES → IsOut set.now lane →
         slice_index places.new.tops lane ≡ slice_index places.old.tops lane }
 {
-    places.behinds = put_in(set, behind as u16, &places.behinds);
+    places.remaining_by_lane = put_in(set, remaining as u16, &places.remaining_by_lane);
     places.tops = put_in(set, top as u16, &places.tops);
 }
 
@@ -146,39 +146,39 @@ pub fn part_at_if(
     places: &mut Places,
     lanes: &mut Lanes,
 ) -> Result<(), Apart>
-    requires some { 0 < flow.old.behind }
-    requires within { flow.old.behind ≤ length code.now }
+    requires some { 0 < flow.old.remaining }
+    requires within { flow.old.remaining ≤ length code.now }
     requires code { length code.now ≤ max_eval_steps }
     requires holds { Holds flow.old.span lanes.old.stacks.len }
     requires floors { (lane : ℕ) → lane < LANES → IsIn flow.old.set.mask lane →
         IsSpanned flow.old.span lane lanes.old.floors }
     requires each { (lane : ℕ) → lane < LANES →
         IsIn flow.old.set.mask lane ⊎ IsOut flow.old.set.mask lane }
-    ensures falls { OnOk result (flow.new.behind < flow.old.behind) }
-    ensures left { IsNext code.now flow.old.behind (SkipIfZero distance) →
+    ensures falls { OnOk result (flow.new.remaining < flow.old.remaining) }
+    ensures left { IsNext code.now flow.old.remaining (SkipIfZero distance) →
         AreLeftWith addresses.now code.now flow.old places.old lanes.old →
         AreLeftWith addresses.now code.now flow.new places.new lanes.new }
 {
     lanes.stacks.need(flow.span, 1)?;
-    let behind = flow.behind - 1;
-    let target = behind.saturating_sub(distance);
+    let remaining = flow.remaining - 1;
+    let target = remaining.saturating_sub(distance);
     if distance == 0 {
         lanes.stacks.len -= 1;
-        flow.behind = behind;
+        flow.remaining = remaining;
         return Ok(());
     }
     let top = lanes.stacks.at_depth(1);
     let parts = flow.set.split(top);
     lanes.stacks.len -= 1;
     if parts.some_zeros == 0 {
-        flow.behind = behind;
+        flow.remaining = remaining;
         return Ok(());
     }
     if parts.some_others == 0 {
-        flow.behind = target;
+        flow.remaining = target;
         return Ok(());
     }
-    flow.behind = behind;
+    flow.remaining = remaining;
     go_apart(code, addresses, parts, target, flow, queue, places, lanes);
     Ok(())
 }
@@ -195,17 +195,17 @@ fn go_apart(
     places: &mut Places,
     lanes: &mut Lanes,
 )
-    requires within { flow.old.behind ≤ length code.now }
+    requires within { flow.old.remaining ≤ length code.now }
     requires code { length code.now ≤ max_eval_steps }
-    requires target { target ≤ flow.old.behind }
+    requires target { target ≤ flow.old.remaining }
     requires holds { Holds flow.old.span lanes.old.stacks.len }
     requires floors { (lane : ℕ) → lane < LANES → IsIn flow.old.set.mask lane →
         IsSpanned flow.old.span lane lanes.old.floors }
     requires parts { (lane : ℕ) → lane < LANES → IsInOnePart (slice_index flow.old.set.mask lane)
         (slice_index parts.zeros lane) (slice_index parts.others lane) }
-    ensures falls { flow.new.behind ≤ flow.old.behind }
+    ensures falls { flow.new.remaining ≤ flow.old.remaining }
     ensures left { AreParted addresses.now code.now flow.old parts.zeros parts.others
-        flow.old.behind target places.old lanes.old →
+        flow.old.remaining target places.old lanes.old →
         AreLeftWith addresses.now code.now flow.new places.new lanes.new }
 {
     let there = lanes.stacks.len;
@@ -214,9 +214,17 @@ fn go_apart(
         is_all: false,
     };
     let mut span = flow.span;
-    let behind = run_straight(code, addresses, &set, flow.behind, target, &mut span, lanes);
-    flow.behind = behind;
-    if behind != target {
+    let remaining = run_straight(
+        code,
+        addresses,
+        &set,
+        flow.remaining,
+        target,
+        &mut span,
+        lanes,
+    );
+    flow.remaining = remaining;
+    if remaining != target {
         wait(places, &parts.zeros, target, there);
         queue.put(waiting_at(target, there));
         flow.set = set;
@@ -245,39 +253,39 @@ pub fn part_at_case(
     places: &mut Places,
     lanes: &mut Lanes,
 ) -> Result<(), Apart>
-    requires some { 0 < flow.old.behind }
-    requires within { flow.old.behind ≤ length code.now }
+    requires some { 0 < flow.old.remaining }
+    requires within { flow.old.remaining ≤ length code.now }
     requires code { length code.now ≤ max_eval_steps }
     requires holds { Holds flow.old.span lanes.old.stacks.len }
-    requires next { IsNext code.now flow.old.behind (Case count) }
-    ensures falls { OnOk result (flow.new.behind < flow.old.behind) }
+    requires next { IsNext code.now flow.old.remaining (Case count) }
+    ensures falls { OnOk result (flow.new.remaining < flow.old.remaining) }
     ensures left { (addresses : List ℕ) →
         AreLeftWith addresses code.now flow.old places.old lanes.old →
         AreLeftWith addresses code.now flow.new places.new lanes.new }
 {
     lanes.stacks.need(flow.span, 1)?;
-    let behind = flow.behind - 1;
+    let remaining = flow.remaining - 1;
     let indices = lanes.stacks.at_depth(1);
     let mut words = LaneQueue::new();
-    let behinds = words_found(
+    let remaining_by_lane = words_found(
         code,
-        behind,
+        remaining,
         count,
         &flow.set.mask,
         indices,
-        &places.behinds,
+        &places.remaining_by_lane,
         lanes.stacks.len - 1,
         &mut words,
     )?;
     lanes.stacks.len -= 1;
     queue.put_all(&mut words);
-    places.behinds = behinds;
+    places.remaining_by_lane = remaining_by_lane;
     places.tops = put_in(&flow.set.mask, lanes.stacks.len as u16, &places.tops);
     flow.set = LaneSet {
         mask: in_all(0),
         is_all: false,
     };
-    flow.behind = 0;
+    flow.remaining = 0;
     flow.stops_at = 0;
     Ok(())
 }
@@ -303,22 +311,22 @@ fn words_found(
     if last >= count {
         return Err(Apart);
     }
-    let mut behinds = *old;
-    let mut behind = from;
+    let mut remaining_by_lane = *old;
+    let mut remaining = from;
     for index in 0..last + 1 {
-        if behind == 0 {
+        if remaining == 0 {
             return Err(Apart);
         }
-        behind -= 1;
-        let Instruction::CaseWord { length, .. } = code.before(behind) else {
+        remaining -= 1;
+        let Instruction::CaseWord { length, .. } = code.before(remaining) else {
             return Err(Apart);
         };
         let those = those_with(set, indices, index as u16);
         if !is_none(&those) {
-            words.push(waiting_at(behind, top));
+            words.push(waiting_at(remaining, top));
         }
-        behinds = put_in(&those, behind as u16, &behinds);
-        behind = behind.saturating_sub(length);
+        remaining_by_lane = put_in(&those, remaining as u16, &remaining_by_lane);
+        remaining = remaining.saturating_sub(length);
     }
-    Ok(behinds)
+    Ok(remaining_by_lane)
 }

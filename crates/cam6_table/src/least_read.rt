@@ -25,8 +25,8 @@ pub fn least_read_lines(code: &Code, mask: u16) -> u16 {
 fn reads_of_lines(code: &Code) -> [u16; NAMED_LINES] {
     let instructions = code.instructions();
     let mut reads = [0u16; NAMED_LINES];
-    for behind in 0..instructions.len() {
-        if let Instruction::Line(line) = instructions.before(behind)
+    for remaining in 0..instructions.len() {
+        if let Instruction::Line(line) = instructions.before(remaining)
             && line < 16
         {
             let number = usize::from(line);

@@ -12,8 +12,8 @@ pub fn lines_read(code: &Code) -> u16
 {
     let instructions = code.instructions();
     let mut mask = CENTRE;
-    for behind in 0..instructions.len() {
-        mask = with_line_of(mask, instructions.before(behind));
+    for remaining in 0..instructions.len() {
+        mask = with_line_of(mask, instructions.before(remaining));
     }
     mask
 }

@@ -35,7 +35,7 @@ pub fn go_on(
     lanes: &mut Lanes,
 ) -> bool
     requires code { length code.now ≤ max_eval_steps }
-    requires within { flow.old.behind ≤ length code.now }
+    requires within { flow.old.remaining ≤ length code.now }
     requires holds { Holds flow.old.span lanes.old.stacks.len }
     requires each { (lane : ℕ) → lane < LANES →
         IsIn flow.old.set.mask lane ⊎ IsOut flow.old.set.mask lane }
@@ -49,7 +49,7 @@ pub fn go_on(
     match queue.pop() {
         None => false,
         Some(next) => {
-            if usize::from(next.behind) == flow.behind {
+            if usize::from(next.remaining) == flow.remaining {
                 meet(next, flow, queue, places, lanes);
             } else {
                 exchange(code, next, flow, queue, places, lanes);
@@ -70,14 +70,14 @@ fn exchange(
     lanes: &mut Lanes,
 )
     requires code { length code.now ≤ max_eval_steps }
-    requires within { flow.old.behind ≤ length code.now }
+    requires within { flow.old.remaining ≤ length code.now }
     requires holds { Holds flow.old.span lanes.old.stacks.len }
     ensures left { (addresses : List ℕ) →
         AreLeftWith addresses code.now flow.old places.old lanes.old →
         AreLeftWith addresses code.now flow.new places.new lanes.new }
 {
-    wait(places, &flow.set.mask, flow.behind, lanes.stacks.len);
-    queue.put(waiting_at(flow.behind, lanes.stacks.len));
+    wait(places, &flow.set.mask, flow.remaining, lanes.stacks.len);
+    queue.put(waiting_at(flow.remaining, lanes.stacks.len));
     *flow = resume(code, next, queue.next_remaining(), places, lanes);
 }
 
@@ -89,7 +89,7 @@ fn meet(
     places: &Places,
     lanes: &mut Lanes,
 )
-    requires here { next.behind ≡ flow.old.behind }
+    requires here { next.remaining ≡ flow.old.remaining }
     requires holds { Holds flow.old.span lanes.old.stacks.len }
     requires each { (lane : ℕ) → lane < LANES →
         IsIn flow.old.set.mask lane ⊎ IsOut flow.old.set.mask lane }
@@ -101,11 +101,11 @@ fn meet(
     if there > ROWS {
         return;
     }
-    let those = others_at(&flow.set.mask, places, next.behind, next.top);
+    let those = others_at(&flow.set.mask, places, next.remaining, next.top);
     let top = level(&flow.set.mask, &those, lanes.stacks.len, there, lanes);
     lanes.stacks.len = top;
     let both = put_in(&flow.set.mask, IN, &those);
-    *flow = flow_of(both, flow.behind, queue.next_remaining(), lanes);
+    *flow = flow_of(both, flow.remaining, queue.next_remaining(), lanes);
 }
 
 /// Tries what may help after an instruction that can't be done in all lanes of a flow. Makes its
@@ -122,12 +122,12 @@ fn settle(flow: &mut Flow, lanes: &mut Lanes) -> bool
     let top = lanes.stacks.len;
     let span = span_of(&lanes.floors, &flow.set.mask, top);
     if flow.was_parted && span != flow.span {
-        *flow = flow_of(flow.set.mask, flow.behind, flow.stops_at, lanes);
+        *flow = flow_of(flow.set.mask, flow.remaining, flow.stops_at, lanes);
         return true;
     }
     if span.bottom < span.floor && top < span.floor + READ {
         dig(&flow.set.mask, top.saturating_sub(DUG), lanes);
-        *flow = flow_of(flow.set.mask, flow.behind, flow.stops_at, lanes);
+        *flow = flow_of(flow.set.mask, flow.remaining, flow.stops_at, lanes);
         return true;
     }
     make_room(flow, lanes)
@@ -151,6 +151,6 @@ fn make_room(flow: &mut Flow, lanes: &mut Lanes) -> bool
     let by = usize::from(least_in(&flow.set.mask, &lanes.floors.widths)).min(top);
     lower(&flow.set.mask, top, top - by, lanes);
     lanes.stacks.len = top - by;
-    *flow = flow_of(flow.set.mask, flow.behind, flow.stops_at, lanes);
+    *flow = flow_of(flow.set.mask, flow.remaining, flow.stops_at, lanes);
     by > 0
 }

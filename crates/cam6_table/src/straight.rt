@@ -37,14 +37,14 @@ pub fn run_straight(
         IsSpanned span.new lane lanes.new.floors }
     ensures left { GoOn addresses.now code.now set.now.mask from lanes.old result lanes.new }
 {
-    let mut behind = from;
-    while behind > stops_at {
-        match step(code.before(behind - 1), addresses, set, span, lanes) {
-            Ok(passed) => behind = (behind - 1).saturating_sub(passed),
-            Err(Apart) => return behind,
+    let mut remaining = from;
+    while remaining > stops_at {
+        match step(code.before(remaining - 1), addresses, set, span, lanes) {
+            Ok(passed) => remaining = (remaining - 1).saturating_sub(passed),
+            Err(Apart) => return remaining,
         }
     }
-    behind
+    remaining
 }
 
 /// Does one instruction in the lanes of a set, and returns how many instructions all of them pass.

@@ -38,7 +38,7 @@ pub fn run_together(
     let start = waiting_at(code.len(), 0);
     let mut flow = resume(code, start, 0, places, lanes);
     run_flows(code, addresses, &mut flow, places, lanes);
-    wait(places, &flow.set.mask, flow.behind, lanes.stacks.len);
+    wait(places, &flow.set.mask, flow.remaining, lanes.stacks.len);
 }
 
 /// Runs the code in the lanes of a flow and in those that part from it. It ends early if
@@ -82,10 +82,10 @@ fn run_flow(
     requires left { AreLeftWith addresses.now code.now flow.old places.old lanes.old }
     ensures left { AreLeftWith addresses.now code.now flow.new places.new lanes.new }
 {
-    while flow.behind > flow.stops_at && *steps > 0 {
-        let from = flow.behind;
+    while flow.remaining > flow.stops_at && *steps > 0 {
+        let from = flow.remaining;
         advance(code, addresses, flow, queue, places, lanes)?;
-        *steps = steps.saturating_sub(from - flow.behind);
+        *steps = steps.saturating_sub(from - flow.remaining);
     }
     Ok(())
 }
@@ -102,13 +102,13 @@ fn advance(
     lanes: &mut Lanes,
 ) -> Result<(), Apart>
     requires code { length code.now ≤ max_eval_steps }
-    requires some { flow.old.stops_at < flow.old.behind }
+    requires some { flow.old.stops_at < flow.old.remaining }
     requires left { AreLeftWith addresses.now code.now flow.old places.old lanes.old }
-    ensures falls { OnOk result (flow.new.behind < flow.old.behind) }
+    ensures falls { OnOk result (flow.new.remaining < flow.old.remaining) }
     ensures left { AreLeftWith addresses.now code.now flow.new places.new lanes.new }
 {
     go_straight(code, addresses, flow, lanes);
-    if flow.behind <= flow.stops_at {
+    if flow.remaining <= flow.stops_at {
         return Ok(());
     }
     diverge(code, addresses, flow, queue, places, lanes)
@@ -117,22 +117,22 @@ fn advance(
 /// Does the instructions that the lanes of a flow do in the same way.
 #[inline(always)]
 fn go_straight(code: &Instructions, addresses: &LaneValues, flow: &mut Flow, lanes: &mut Lanes)
-    requires within { flow.old.behind ≤ length code.now }
+    requires within { flow.old.remaining ≤ length code.now }
     requires holds { Holds flow.old.span lanes.old.stacks.len }
     requires floors { (lane : ℕ) → lane < LANES → IsIn flow.old.set.mask lane →
         IsSpanned flow.old.span lane lanes.old.floors }
-    ensures falls { flow.new.behind ≤ flow.old.behind }
+    ensures falls { flow.new.remaining ≤ flow.old.remaining }
     ensures stops_at { flow.new.stops_at ≡ flow.old.stops_at }
     ensures left { (places : Places) →
         AreLeftWith addresses.now code.now flow.old places lanes.old →
         AreLeftWith addresses.now code.now flow.new places lanes.new }
 {
     let mut span = flow.span;
-    flow.behind = run_straight(
+    flow.remaining = run_straight(
         code,
         addresses,
         &flow.set,
-        flow.behind,
+        flow.remaining,
         flow.stops_at,
         &mut span,
         lanes,
@@ -152,12 +152,12 @@ fn diverge(
     lanes: &mut Lanes,
 ) -> Result<(), Apart>
     requires code { length code.now ≤ max_eval_steps }
-    requires some { 0 < flow.old.behind }
+    requires some { 0 < flow.old.remaining }
     requires left { AreLeftWith addresses.now code.now flow.old places.old lanes.old }
-    ensures falls { OnOk result (flow.new.behind < flow.old.behind) }
+    ensures falls { OnOk result (flow.new.remaining < flow.old.remaining) }
     ensures left { AreLeftWith addresses.now code.now flow.new places.new lanes.new }
 {
-    match code.before(flow.behind - 1) {
+    match code.before(flow.remaining - 1) {
         Instruction::SkipIfZero(distance) => {
             part_at_if(code, addresses, distance, flow, queue, places, lanes)
         }

@@ -5,21 +5,21 @@ use crate::lane_stacks::ROWS;
 use crate::lane_values::LANES;
 
 /// The most instructions that code has.
-const MOST_BEHIND: usize = 4096;
+const MOST_REMAINING: usize = 4096;
 
 /// A place where lanes wait: how many instructions are left, and the row at which their stacks end.
 #[derive(Clone, Copy, Debug, PartialEq, Eq)]
 pub struct LanesWaiting {
-    pub behind: u16,
+    pub remaining: u16,
     pub top: u16,
 }
 
-/// A place with `behind` instructions left and stacks that end at row `top`. Numbers above 4,096
+/// A place with `remaining` instructions left and stacks that end at row `top`. Numbers above 4,096
 /// and 64 become these, as no code is longer and no stack ends higher.
 #[inline(always)]
-pub fn waiting_at(behind: usize, top: usize) -> LanesWaiting {
+pub fn waiting_at(remaining: usize, top: usize) -> LanesWaiting {
     LanesWaiting {
-        behind: behind.min(MOST_BEHIND) as u16,
+        remaining: remaining.min(MOST_REMAINING) as u16,
         top: top.min(ROWS) as u16,
     }
 }
@@ -47,7 +47,7 @@ impl LaneQueue {
         if len == 0 {
             0
         } else {
-            usize::from(self.waiting[len - 1].behind)
+            usize::from(self.waiting[len - 1].remaining)
         }
     }
 
@@ -65,10 +65,10 @@ impl LaneQueue {
     /// Adds a place, unless it is the end of the code, is there already or finds no room.
     #[inline(always)]
     pub fn put(&mut self, new: LanesWaiting) {
-        if new.behind == 0 || self.len >= LANES {
+        if new.remaining == 0 || self.len >= LANES {
             return;
         }
-        if self.next_remaining() < usize::from(new.behind) {
+        if self.next_remaining() < usize::from(new.remaining) {
             self.waiting[self.len] = new;
             self.len += 1;
         } else {
@@ -84,7 +84,7 @@ impl LaneQueue {
         let mut at = self.len;
         self.waiting[at] = new;
         self.len += 1;
-        while at > 0 && at < LANES && self.waiting[at - 1].behind > new.behind {
+        while at > 0 && at < LANES && self.waiting[at - 1].remaining > new.remaining {
             self.waiting[at] = self.waiting[at - 1];
             self.waiting[at - 1] = new;
             at -= 1;
@@ -96,10 +96,10 @@ impl LaneQueue {
         let len = self.len.min(LANES);
         for back in 1..len + 1 {
             let other = self.waiting[len - back];
-            if other.behind < new.behind {
+            if other.remaining < new.remaining {
                 return false;
             }
-            if other.behind == new.behind && other.top == new.top {
+            if other.remaining == new.remaining && other.top == new.top {
                 return true;
             }
         }

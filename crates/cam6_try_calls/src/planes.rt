@@ -89,19 +89,14 @@ pub(crate) fn check_row(rt: &impl Abort, planes: &Planes, p: usize, y: usize, wa
     same_at(rt, &planes.row_words(p, y), &want, &(p, y));
 }
 
-/// Row 255 of plane 3 has the digits of `TEXT`, and nothing is written behind them. The columns of
+/// Row 255 of plane 3 has the digits of `TEXT`, and nothing is written after them. The columns of
 /// row 0 of plane 0 are the bits of `ROW`.
 fn check_digits(rt: &impl Abort, planes: &Planes) {
     assert!(rt; planes.side().number() == 256);
     let mut text = [b'-'; DIGITS];
     same_at(rt, &planes.row_hex(3, 255, &mut text), &64, &"digits");
     same_at(rt, &&text[..64], &TEXT, &"digits");
-    same_at(
-        rt,
-        &&text[64..],
-        &[b'-'; 64].as_slice(),
-        &"what lies behind",
-    );
+    same_at(rt, &&text[64..], &[b'-'; 64].as_slice(), &"what lies after");
     for x in 0..256 {
         let want = (ROW[x / 64] >> (63 - x % 64)) % 2 == 1;
         same_at(rt, &planes.bit(0, x, 0), &want, &x);

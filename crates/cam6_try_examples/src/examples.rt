@@ -101,7 +101,7 @@ impl<W: Way> Reading<W> {
         Ok(self.named.push(Named { name, bytes })?)
     }
 
-    /// Reads what stands after `>`, and adds the line to those that are sent. What stands behind `
+    /// Reads what stands after `>`, and adds the line to those that are sent. What stands after `
     /// => ` must come back.
     fn send(&mut self, alloc: Global, rest: &str) -> Result<(), Unplayable> {
         match rest.rsplit_once(" => ") {

@@ -59,7 +59,7 @@ fn answer_from<W: Write>(
         match serve(alloc, &mut reader, &mut writer, machine, READS) {
             End::EndOfInput => return Ok(()),
             End::NoMemory { done } => {
-                rest = behind(rest, writer.lines.saturating_add(usize::from(done)));
+                rest = lines_after(rest, writer.lines.saturating_add(usize::from(done)));
                 let told = if done { "done\n" } else { "again\n" };
                 writer.writer.write_all(told.as_bytes())?;
             }
@@ -70,7 +70,7 @@ fn answer_from<W: Write>(
 }
 
 /// The lines after the first `number`.
-fn behind(lines: &[u8], number: usize) -> &[u8] {
+fn lines_after(lines: &[u8], number: usize) -> &[u8] {
     let mut rest = lines;
     for _ in 0..number {
         match rest.iter().position(|byte| *byte == b'\n') {

@@ -40,12 +40,12 @@ pub says_band : (line rest : List ℕ) → bytes_eq (take (length plain_front) l
     rest ≡ drop (length plain_front) line → length rest ≡ 2 → slice_index_or rest 1 0 ≡ 125 →
     48 ≤ slice_index_or rest 0 0 → slice_index_or rest 0 0 ≤ 57 →
     event line ≡ Ok (Band (slice_index_or rest 0 0 - 48))
-says_band line rest front behind long brace least most =
+says_band line rest front after long brace least most =
     let digit = slice_index_or rest 0 0 in
     let whole : line ≡ plain_front ++ (48 + (digit - 48)) ∷ 125 ∷ [] =
     sym (take-append-drop (length plain_front) line) ∙
     ap (λ x. x ++ drop (length plain_front) line) (same_text _ _ (sym front)) ∙
-    ap (λ x. plain_front ++ x) (sym behind ∙ two rest long) ∙
+    ap (λ x. plain_front ++ x) (sym after ∙ two rest long) ∙
     ap (λ x. plain_front ++ digit ∷ x ∷ []) brace ∙
     ap (λ x. plain_front ++ x ∷ 125 ∷ []) (let e : digit ≡ 48 + (digit - 48) = omega (arith, least) in e) in
     ap event whole ∙ says_digit (digit - 48) (omega (arith, least, most))

@@ -102,21 +102,21 @@ mutual
 
 -- keys in order
 
--- members with more behind them
-behind : Members → Members → Members
-behind no_members more = more
-behind (member key d held) more = member key d (behind held more)
+-- members with more after them
+after : Members → Members → Members
+after no_members more = more
+after (member key d held) more = member key d (after held more)
 
-behind_none : (held : Members) → behind held no_members ≡ held
-unfolding behind
-behind_none no_members = refl
-behind_none (member key d held) = ap (member key d) (behind_none held)
+after_none : (held : Members) → after held no_members ≡ held
+unfolding after
+after_none no_members = refl
+after_none (member key d held) = ap (member key d) (after_none held)
 
-behind_again : (held more last : Members)
-    → behind (behind held more) last ≡ behind held (behind more last)
-unfolding behind
-behind_again no_members more last = refl
-behind_again (member key d held) more last = ap (member key d) (behind_again held more last)
+after_again : (held more last : Members)
+    → after (after held more) last ≡ after held (after more last)
+unfolding after
+after_again no_members more last = refl
+after_again (member key d held) more last = ap (member key d) (after_again held more last)
 
 -- all keys of some members stand before a key
 abbrev AreBefore : Members → List ℕ → Type 0
@@ -129,8 +129,8 @@ Precede found no_members = ⊤
 Precede found (member key d held) = AreBefore found key × Precede found held
 
 put_last : (key : List ℕ) (d : Data) (found : Members) → AreBefore found key
-    → put key d found ≡ behind found (member key d no_members)
-unfolding behind
+    → put key d found ≡ after found (member key d no_members)
+unfolding after
 put_last key d no_members before = refl
 put_last key d (member other e found) before =
     ap (λ o. match_ordering o (member key d (member other e found)) (member other d found)
@@ -138,14 +138,14 @@ put_last key d (member other e found) before =
     ∙ ap (member other e) (put_last key d found before.1)
 
 before_more : (found : Members) (key other : List ℕ) (d : Data) → AreBefore found other
-    → slice_cmp nat_cmp key other ≡ Less → AreBefore (behind found (member key d no_members)) other
-unfolding behind
+    → slice_cmp nat_cmp key other ≡ Less → AreBefore (after found (member key d no_members)) other
+unfolding after
 before_more no_members key other d before is = (is, tt)
 before_more (member first e found) key other d before is =
     (before.0, before_more found key other d before.1 is)
 
 precede_more : (found : Members) (key : List ℕ) (d : Data) (held : Members)
-    → Precede found held → IsBefore key held → Precede (behind found (member key d no_members)) held
+    → Precede found held → IsBefore key held → Precede (after found (member key d no_members)) held
 precede_more found key d no_members precede is = tt
 precede_more found key d (member other e held) precede is = (
   before_more found key other d precede.0 is.0,
@@ -163,7 +163,7 @@ and_then_some : {A B : Type 0} (f : A → Option B) (o : Option A) (a : A) → o
 and_then_some f o a e = ap (option_and_then f) e
 
 mutual
-  unfolding behind
+  unfolding after
 
   value_back : (d : Data) → IsWholeData d → of_json (outline d) ≡ Some d
   value_back null whole = refl
@@ -182,15 +182,15 @@ mutual
       ∙ ap (option_map (item d)) (items_back items whole.1)
 
   members_back : (held found : Members) → HaveWhole held → Precede found held
-      → of_members (members_outline held) found ≡ Some (behind found held)
-  members_back no_members found whole precede = ap Some (sym (behind_none found))
+      → of_members (members_outline held) found ≡ Some (after found held)
+  members_back no_members found whole precede = ap Some (sym (after_none found))
   members_back (member key d held) found whole precede =
       ap (option_and_then (λ d. of_members (members_outline held) (put key d found)))
       (value_back d whole.0)
       ∙ ap (of_members (members_outline held)) (put_last key d found precede.0)
-      ∙ members_back held (behind found (member key d no_members)) whole.2
+      ∙ members_back held (after found (member key d no_members)) whole.2
       (precede_more found key d held precede.1 whole.1)
-      ∙ ap Some (behind_again found (member key d no_members) held)
+      ∙ ap Some (after_again found (member key d no_members) held)
 
 -- JSON is read from its text, in whatever order its keys are
 pub read_printed : (j : json.Json) → tree.HasNumbers j → tree.depth j ≤ max_depth

@@ -44,7 +44,7 @@ parted front byte bytes small text =
           (subst IsUtf8 (drop_at front (byte ∷ bytes) n refl) (IsUtf8-drop bs n text boundary)),
     )
 
--- bytes that go on UTF-8 have a content that goes on it; behind a backslash, `u` or a high
+-- bytes that go on UTF-8 have a content that goes on it; after a backslash, `u` or a high
 -- surrogate they are UTF-8 by themselves, and so is their content
 abbrev Unescapes : Within → List ℕ → Type 0
 Unescapes plain bytes =
@@ -137,10 +137,10 @@ unit_bound : (p q r s : ℕ) → p < 16 → q < 16 → r < 16 → s < 16 →
 unit_bound p q r s h i j k = omega arith
 
 -- four digits spell a code unit, and what follows them is UTF-8
-behind_unit : (a b c d : ℕ) (bytes : List ℕ) → IsUtf8 (a ∷ b ∷ c ∷ d ∷ bytes) →
+after_unit : (a b c d : ℕ) (bytes : List ℕ) → IsUtf8 (a ∷ b ∷ c ∷ d ∷ bytes) →
     IfSome (code_unit a b c d) (λ unit. (unit < 65536) × IsUtf8 bytes)
 unfolding code_unit
-behind_unit a b c d bytes text =
+after_unit a b c d bytes text =
     of_test (λ unit. (unit < 65536) × IsUtf8 bytes)
     (is_digit a 16 && is_digit b 16 && is_digit c 16 && is_digit d 16) (Some _) None
     (λ are.
@@ -185,7 +185,7 @@ unit_bytes a b c d bytes more paired text =
     (λ low.
     then_more (encode_utf8 unit) bytes
     (IsUtf8-encode unit (scalar_unit unit known.0 high low)) known.1 more)))
-    (code_unit a b c d) (behind_unit a b c d bytes text)
+    (code_unit a b c d) (after_unit a b c d bytes text)
 
 -- what follows a high surrogate
 pair_bytes : (high s u a b c d : ℕ) (bytes : List ℕ) → Unescapes plain bytes →
@@ -203,7 +203,7 @@ pair_bytes high s u a b c d bytes more is_high text =
     (IsUtf8-encode (surrogate_pair high low) (scalar_pair high low is_high is_low)) known.1 more)
     tt)
     (code_unit a b c d)
-    (behind_unit a b c d bytes
+    (after_unit a b c d bytes
     (after_ascii u (a ∷ b ∷ c ∷ d ∷ bytes) (omega (arith, eqb-true u ascii.lower_u tests.1))
     (after_ascii s (u ∷ a ∷ b ∷ c ∷ d ∷ bytes)
     (omega (arith, eqb-true s ascii.backslash tests.0)) text))))

@@ -87,7 +87,7 @@ a_string : (o : Option (List ℕ)) → IfSome o IsUtf8 → IsTextToken (string_t
 a_string None valid = tt
 a_string (Some text) valid = valid
 
--- a string begins behind a quote, in bytes that are UTF-8
+-- a string begins after a quote, in bytes that are UTF-8
 a_byte : (mode : Mode) (c : Class) (byte : ℕ) (bytes : List ℕ) (k : Mode → List Lexeme) →
     (c ≡ quote → IsUtf8 bytes) → ((next : Mode) → AreTextLexemes (k next)) →
     AreTextLexemes (lex_byte mode c byte bytes k)

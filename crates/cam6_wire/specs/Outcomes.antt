@@ -16,8 +16,8 @@ abbrev pub refused : ℕ → Data
 refused n = object (member (codes "refused") (natural n) no_members)
 
 -- {"left":n,"ok":word}
-abbrev pub left_behind : ℕ → List ℕ → Data
-left_behind n word =
+abbrev pub left_after : ℕ → List ℕ → Data
+left_after n word =
     object
     (member (codes "left") (natural n) (member (codes "ok") (string word) no_members))
 
@@ -25,11 +25,11 @@ left_behind n word =
 abbrev pub outcome_data : Outcome → Data
 outcome_data NoMemory = refused 0
 outcome_data (Refused reason) = refused (refused_number reason)
-outcome_data (Asked left) = left_behind left (codes "ask")
-outcome_data (Leased left) = left_behind left (codes "lease")
-outcome_data (Banded left) = left_behind left (codes "band")
-outcome_data (Preempted left) = left_behind left (codes "preempt")
-outcome_data (Failed (Some left)) = left_behind left (codes "fail")
+outcome_data (Asked left) = left_after left (codes "ask")
+outcome_data (Leased left) = left_after left (codes "lease")
+outcome_data (Banded left) = left_after left (codes "band")
+outcome_data (Preempted left) = left_after left (codes "preempt")
+outcome_data (Failed (Some left)) = left_after left (codes "fail")
 outcome_data (Failed None) = done (codes "fail") no_members
 outcome_data Repaired = done (codes "repair") no_members
 outcome_data Evicted = done (codes "evict") no_members

@@ -3,7 +3,7 @@ ghost use Rattle.std.specs.Prelude.{◌≡◌, ◌<◌, ◌^◌, ◌++◌, ◌�
 ghost use Rattle.std.specs.Prelude.{codes, decimal, string_bytes};
 ghost use Rattle.serde_json.specs.Read.{read};
 ghost use Rattle.serde_json.specs.View.{view};
-ghost use Rattle.cam6_wire.specs.Outcomes.{WasDone, left_behind, outcome_bytes, outcome_data};
+ghost use Rattle.cam6_wire.specs.Outcomes.{WasDone, left_after, outcome_bytes, outcome_data};
 ghost use Rattle.cam6_wire.specs.Outcomes.{refused};
 
 use crate::replies::{ok_value, reply_value, told_value};
@@ -101,7 +101,7 @@ fn collected_value(alloc: Global, reply: &Reply) -> Result<Value, AllocError>
 
 /// The value of an event that leaves so many bands.
 fn left_value(alloc: Global, word: &str, left: u64) -> Result<Value, AllocError>
-    ensures { IfOk result (λ value. view value ≡ left_behind left word.now) }
+    ensures { IfOk result (λ value. view value ≡ left_after left word.now) }
 {
     told_value(alloc, word, "left", Value::from(left))
 }

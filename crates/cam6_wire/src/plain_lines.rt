@@ -20,7 +20,7 @@ pub(crate) fn plain_command(line: &[u8]) -> Option<Command>
     if line.len() > LINE_LIMIT {
         return None;
     }
-    let word = behind(line, b"{\"do\":\"".as_slice())?;
+    let word = strip_prefix(line, b"{\"do\":\"".as_slice())?;
     match *word.first()? {
         b'b' => plain_back(line),
         b'p' => plain_plane(line),
@@ -77,7 +77,10 @@ fn plain_row(line: &[u8]) -> Option<Command>
     ensures said { IfSome result (λ command. what_is_said line.now ≡ Ok command) }
     ensures texts { IfSome result (λ command. HasText command) }
 {
-    let (plane, rest) = number_before(behind(line, b"{\"do\":\"row\",\"plane\":".as_slice())?)?;
+    let (plane, rest) = number_before(strip_prefix(
+        line,
+        b"{\"do\":\"row\",\"plane\":".as_slice(),
+    )?)?;
     let row = number_within(rest, b",\"row\":".as_slice())?;
     Some(Command::Row { plane, row })
 }
@@ -88,9 +91,12 @@ fn plain_set(line: &[u8]) -> Option<Command>
     ensures said { IfSome result (λ command. what_is_said line.now ≡ Ok command) }
     ensures texts { IfSome result (λ command. HasText command) }
 {
-    let (plane, rest) = number_before(behind(line, b"{\"do\":\"set\",\"plane\":".as_slice())?)?;
-    let (row, rest) = number_before(behind(rest, b",\"row\":".as_slice())?)?;
-    let rest = behind(rest, b",\"bits\":\"".as_slice())?;
+    let (plane, rest) = number_before(strip_prefix(
+        line,
+        b"{\"do\":\"set\",\"plane\":".as_slice(),
+    )?)?;
+    let (row, rest) = number_before(strip_prefix(rest, b",\"row\":".as_slice())?)?;
+    let rest = strip_prefix(rest, b",\"bits\":\"".as_slice())?;
     let digits = before(rest, b"\"}".as_slice())?;
     let bits = bits_of_digits(digits)?;
     Some(Command::Set { plane, row, bits })
@@ -101,8 +107,8 @@ fn number_within(text: &[u8], front: &[u8]) -> Option<u64>
     ensures { IfSome result (λ n. (text.now ≡ front.now ++ decimal n ++ codes "}")
         × (n < 2 ^ 64)) }
 {
-    let (n, rest) = number_before(behind(text, front)?)?;
-    let end = behind(rest, b"}".as_slice())?;
+    let (n, rest) = number_before(strip_prefix(text, front)?)?;
+    let end = strip_prefix(rest, b"}".as_slice())?;
     if !end.is_empty() {
         return None;
     }
@@ -116,7 +122,7 @@ fn number_before(text: &[u8]) -> Option<(u64, &[u8])>
 {
     let n = number_of_digits(text);
     let mut buffer = itoa::Buffer::new();
-    let rest = behind(text, buffer.format(n).as_bytes())?;
+    let rest = strip_prefix(text, buffer.format(n).as_bytes())?;
     Some((n, rest))
 }
 
@@ -135,7 +141,7 @@ fn number_of_digits(text: &[u8]) -> u64 {
 }
 
 /// What comes after a prefix, if the text begins with it.
-fn behind<'a>(text: &'a [u8], front: &[u8]) -> Option<&'a [u8]>
+fn strip_prefix<'a>(text: &'a [u8], front: &[u8]) -> Option<&'a [u8]>
     ensures { IfSome result (λ rest. text.now ≡ front.now ++ rest.now) }
 {
     let rest = text.strip_prefix(front)?;

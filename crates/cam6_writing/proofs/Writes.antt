@@ -14,20 +14,20 @@ pub record Written (old new : Option (List ℕ)) (bytes rest : List ℕ) : Type 
   pub whole : bytes ≡ part ++ rest
   pub appends : Appends old new part
 
--- the rest is written as the code has it: what stands behind the n bytes
+-- the rest is written as the code has it: what stands after the n bytes
 pub more_is_written : (old now new : Option (List ℕ)) (bytes rest : List ℕ) (n : ℕ)
     → n ≤ length rest → Written old now bytes rest → Appends now new (take n rest)
     → Written old new bytes (take (length rest - n) (drop n rest))
 more_is_written old now new bytes rest n within before more =
     let front = before.part ++ take n rest in
-    let behind : take (length rest - n) (drop n rest) ≡ drop n rest =
+    let after : take (length rest - n) (drop n rest) ≡ drop n rest =
     take_all (length rest - n) (drop n rest) (omega (arith, length-drop n rest)) in
     record {
       part = front;
       whole = before.whole
           ∙ ap (λ l. before.part ++ l) (sym (take-append-drop n rest))
           ∙ sym (append_assoc before.part (take n rest) (drop n rest))
-          ∙ ap (λ l. front ++ l) (sym behind);
+          ∙ ap (λ l. front ++ l) (sym after);
       appends = Appends-trans old now new before.part (take n rest) before.appends more;
     }
 

@@ -6,17 +6,17 @@ use Rattle.cam6_handoff.specs.declared.rule.View.TheVariants.{First, Unseated}
 use Rattle.cam6_handoff.specs.declared.rule.View.TheVariants.{Idle}
 
 -- what the first seat knows after a cut, and what the new one does; no other seat is cut
-abbrev pub behind_desk : View → View
-behind_desk (First desks boards) = First (desks + 1) boards
-behind_desk v = v
+abbrev pub after_desk : View → View
+after_desk (First desks boards) = First (desks + 1) boards
+after_desk v = v
 
 abbrev pub new_desk : View → View
 new_desk (First desks boards) = Unseated desks
 new_desk v = v
 
-abbrev pub behind_board : View → View
-behind_board (First desks boards) = First desks (boards + 1)
-behind_board v = v
+abbrev pub after_board : View → View
+after_board (First desks boards) = First desks (boards + 1)
+after_board v = v
 
 abbrev pub new_board : View → View
 new_board (First desks boards) = Idle boards

@@ -185,69 +185,69 @@ pub record StepsIn (set addresses : List ℕ) (instruction : Instruction) (span 
 -- what code comes to from a place and a state on
 abbrev pub outcome_from : ℕ → List Instruction → Place → State → Result State RuleFault
 outcome_from address code place s =
-    exec (shown address) (last_of place.behind code) 0 place.word s
+    exec (shown address) (last_of place.remaining code) 0 place.word s
 
 -- an instruction is the next one, where so many are left
 abbrev pub IsNext : List Instruction → ℕ → Instruction → Type 0
-IsNext code behind instruction =
-    last_of (behind - 1 + 1) code ≡ instruction ∷ last_of (behind - 1) code
+IsNext code remaining instruction =
+    last_of (remaining - 1 + 1) code ≡ instruction ∷ last_of (remaining - 1) code
 
 -- the search for a word of a case leads to where so many instructions are left
-abbrev pub LeadsTo : List Instruction → (from word behind : ℕ) → Type 0
-LeadsTo code from word behind = (address : ℕ) (s : State) →
-    outcome_from address code (record { behind = behind; word = None }) s
-    ≡ outcome_from address code (record { behind = from; word = Some word }) s
+abbrev pub LeadsTo : List Instruction → (from word remaining : ℕ) → Type 0
+LeadsTo code from word remaining = (address : ℕ) (s : State) →
+    outcome_from address code (record { remaining = remaining; word = None }) s
+    ≡ outcome_from address code (record { remaining = from; word = Some word }) s
 
 -- each lane of a set has the index of a word of a case, and so many instructions are left at its
 -- word, as the search from the case's first head finds it; those of other lanes stay
-pub record AreFound (code : List Instruction) (from count : ℕ) (set indices old behinds : List ℕ)
+pub record AreFound (code : List Instruction) (from count : ℕ) (set indices old remaining_by_lane : List ℕ)
     : Type 0 where
   pub below : (lane : ℕ) → lane < LANES → IsIn set lane → slice_index indices lane < count
-  pub within : (lane : ℕ) → lane < LANES → IsIn set lane → slice_index behinds lane ≤ length code
+  pub within : (lane : ℕ) → lane < LANES → IsIn set lane → slice_index remaining_by_lane lane ≤ length code
   pub found : (lane : ℕ) → lane < LANES → IsIn set lane →
-      LeadsTo code from (slice_index indices lane) (slice_index behinds lane)
+      LeadsTo code from (slice_index indices lane) (slice_index remaining_by_lane lane)
   pub others : (lane : ℕ) → lane < LANES → IsOut set lane →
-      slice_index behinds lane ≡ slice_index old lane
+      slice_index remaining_by_lane lane ≡ slice_index old lane
 
 -- where so many instructions are left to a lane and its stack ends before a row, there is left to
 -- do what the code does from its start
-pub record IsLeft (address : ℕ) (code : List Instruction) (behind top : ℕ) (lanes : Lanes)
+pub record IsLeft (address : ℕ) (code : List Instruction) (remaining top : ℕ) (lanes : Lanes)
     (lane : ℕ) : Type 0 where
-  pub place : behind ≤ length code
+  pub place : remaining ≤ length code
   pub stands : Stands lane top lanes.floors
-  pub left : outcome_from address code (record { behind = behind; word = None })
+  pub left : outcome_from address code (record { remaining = remaining; word = None })
       (state_at lane top lanes) ≡ exec (shown address) code 0 None untouched
 
 -- so it is in each lane, where it waits
 abbrev pub AreLeft : List ℕ → List Instruction → Places → Lanes → Type 0
 AreLeft addresses code places lanes = (lane : ℕ) → lane < LANES →
-    IsLeft (slice_index addresses lane) code (slice_index places.behinds lane)
+    IsLeft (slice_index addresses lane) code (slice_index places.remaining_by_lane lane)
     (slice_index places.tops lane) lanes lane
 
 -- so it is in each lane of a set, where so many instructions are left, and in each other one, where
 -- it waits
-pub record AreLeftAt (addresses : List ℕ) (code : List Instruction) (set : List ℕ) (behind : ℕ)
+pub record AreLeftAt (addresses : List ℕ) (code : List Instruction) (set : List ℕ) (remaining : ℕ)
     (places : Places) (lanes : Lanes) : Type 0 where
-  pub within : behind ≤ length code
+  pub within : remaining ≤ length code
   pub each : (lane : ℕ) → lane < LANES → IsIn set lane ⊎ IsOut set lane
   pub inside : (lane : ℕ) → lane < LANES → IsIn set lane →
-      IsLeft (slice_index addresses lane) code behind lanes.stacks.len lanes lane
+      IsLeft (slice_index addresses lane) code remaining lanes.stacks.len lanes lane
   pub outside : (lane : ℕ) → lane < LANES → IsOut set lane →
-      IsLeft (slice_index addresses lane) code (slice_index places.behinds lane)
+      IsLeft (slice_index addresses lane) code (slice_index places.remaining_by_lane lane)
       (slice_index places.tops lane) lanes lane
 
 -- so it is in each lane of a flow, and in each other one, where it waits
 pub record AreLeftWith (addresses : List ℕ) (code : List Instruction) (flow : Flow)
     (places : Places) (lanes : Lanes) : Type 0 where
-  pub within : flow.behind ≤ length code
+  pub within : flow.remaining ≤ length code
   pub holds : Holds flow.span lanes.stacks.len
   pub floors : (lane : ℕ) → lane < LANES → IsIn flow.set.mask lane →
       IsSpanned flow.span lane lanes.floors
   pub each : (lane : ℕ) → lane < LANES → IsIn flow.set.mask lane ⊎ IsOut flow.set.mask lane
   pub inside : (lane : ℕ) → lane < LANES → IsIn flow.set.mask lane →
-      IsLeft (slice_index addresses lane) code flow.behind lanes.stacks.len lanes lane
+      IsLeft (slice_index addresses lane) code flow.remaining lanes.stacks.len lanes lane
   pub outside : (lane : ℕ) → lane < LANES → IsOut flow.set.mask lane →
-      IsLeft (slice_index addresses lane) code (slice_index places.behinds lane)
+      IsLeft (slice_index addresses lane) code (slice_index places.remaining_by_lane lane)
       (slice_index places.tops lane) lanes lane
 
 -- a lane has its state, with a stack that ends before another row
@@ -257,24 +257,24 @@ pub record IsKept (top : ℕ) (lanes : Lanes) (after : ℕ) (new : Lanes) (lane 
 
 -- in each lane of a set there is left to do, where fewer instructions are left, what there was; in
 -- the other lanes nothing was done
-pub record GoOn (addresses : List ℕ) (code : List Instruction) (set : List ℕ) (behind : ℕ)
+pub record GoOn (addresses : List ℕ) (code : List Instruction) (set : List ℕ) (remaining : ℕ)
     (lanes : Lanes) (after : ℕ) (new : Lanes) : Type 0 where
   pub inside : (lane : ℕ) → lane < LANES → IsIn set lane →
-      IsLeft (slice_index addresses lane) code behind lanes.stacks.len lanes lane →
+      IsLeft (slice_index addresses lane) code remaining lanes.stacks.len lanes lane →
       IsLeft (slice_index addresses lane) code after new.stacks.len new lane
   pub outside : (lane : ℕ) → lane < LANES → IsOut set lane → IsUntouched lanes new lane
 
 -- the lanes of a flow part: so many instructions are left in those of one part, and so many in
 -- those of the other
 pub record AreParted (addresses : List ℕ) (code : List Instruction) (flow : Flow)
-    (first second : List ℕ) (behind target : ℕ) (places : Places) (lanes : Lanes) : Type 0 where
-  pub within : behind ≤ length code
+    (first second : List ℕ) (remaining target : ℕ) (places : Places) (lanes : Lanes) : Type 0 where
+  pub within : remaining ≤ length code
   pub floors : (lane : ℕ) → lane < LANES → IsIn flow.set.mask lane →
       IsSpanned flow.span lane lanes.floors
   pub zeros : (lane : ℕ) → lane < LANES → IsIn first lane →
       IsLeft (slice_index addresses lane) code target lanes.stacks.len lanes lane
   pub others : (lane : ℕ) → lane < LANES → IsIn second lane →
-      IsLeft (slice_index addresses lane) code behind lanes.stacks.len lanes lane
+      IsLeft (slice_index addresses lane) code remaining lanes.stacks.len lanes lane
   pub outside : (lane : ℕ) → lane < LANES → IsOut flow.set.mask lane →
-      IsLeft (slice_index addresses lane) code (slice_index places.behinds lane)
+      IsLeft (slice_index addresses lane) code (slice_index places.remaining_by_lane lane)
       (slice_index places.tops lane) lanes lane

@@ -1,7 +1,7 @@
 use Rattle.std.proofs.Common.{rules, ℕ, ◌+◌, sym, subst}
 use Rattle.atomic_table.specs.Table.{Splits}
 use Rattle.cam6_handoff.specs.Rule.{Rule, Seated}
-use Rattle.cam6_handoff.specs.Internal.Cutting.{behind_board, new_board}
+use Rattle.cam6_handoff.specs.Internal.Cutting.{after_board, new_board}
 use Rattle.cam6_handoff.proofs.Keeps.{cuts_board}
 use Rattle.cam6_handoff.proofs.start.cut_board.Goals as goal
 
@@ -13,6 +13,6 @@ split_seat-seat-requires c =
     let id : ℕ = c.args.first.now.id in (
       search rules,
       search rules,
-      subst (λ (m : Seated). Splits (Rule users) id m.0 (behind_board m.0) (new_board m.0))
+      subst (λ (m : Seated). Splits (Rule users) id m.0 (after_board m.0) (new_board m.0))
           (sym c.requires.next) (cuts_board users id n b (b + 1) b),
     )

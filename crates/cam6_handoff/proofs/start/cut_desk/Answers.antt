@@ -1,7 +1,7 @@
 use Rattle.std.proofs.Common.{rules, ℕ, sym, subst}
 use Rattle.atomic_table.specs.Table.{Splits}
 use Rattle.cam6_handoff.specs.Rule.{Rule, Seated}
-use Rattle.cam6_handoff.specs.Internal.Cutting.{behind_desk, new_desk}
+use Rattle.cam6_handoff.specs.Internal.Cutting.{after_desk, new_desk}
 use Rattle.cam6_handoff.proofs.Keeps.{cuts_desk}
 use Rattle.cam6_handoff.proofs.start.cut_desk.Goals as goal
 
@@ -12,6 +12,6 @@ split_seat-seat-requires c =
     let id : ℕ = c.args.first.now.id in (
       search rules,
       search rules,
-      subst (λ (m : Seated). Splits (Rule users) id m.0 (behind_desk m.0) (new_desk m.0))
+      subst (λ (m : Seated). Splits (Rule users) id m.0 (after_desk m.0) (new_desk m.0))
           (sym c.requires.next) (cuts_desk users id 0 u),
     )

@@ -1,7 +1,7 @@
 use Rattle.std.proofs.Common.{refl, ap}
 use Rattle.cam6_station.specs.Held.{is_loaded}
 use Rattle.cam6_pool.proofs.Going.{goes_on, free, failed, more_rises, none_left, fewer_left}
-use Rattle.cam6_pool.proofs.Serving.{serves_behind, accepts_done, accepts_lost}
+use Rattle.cam6_pool.proofs.Serving.{serves_after, accepts_done, accepts_lost}
 use Rattle.cam6_pool.proofs.workers.go_on.Goals as goal
 
 pub put_done-requires : goal.put_done-requires
@@ -20,7 +20,7 @@ returns-in-More-clause-on g c =
     let s = c.args.station.now in
     let after = c.band.new.self in
     goes_on b b s after refl
-    (serves_behind b.holds s.at after.at _ c.requires.serves c.in-More.ensures.gives)
+    (serves_after b.holds s.at after.at _ c.requires.serves c.in-More.ensures.gives)
     (more_rises s.at after.at _ s.faults after.faults c.in-More.ensures.gives
     c.in-More.ensures.faults)
 

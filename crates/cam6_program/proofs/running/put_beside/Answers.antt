@@ -22,8 +22,8 @@ returns-then-into-written c = λ x h.
     omega (arith, count, after.ensures.within) in
     let units : List (List ℕ) = take after.result a.slots.now in
     c.put_result.ensures x h ∙
-    ap (λ behind. made lines (at_column x (take c.from-into.result units) ++
-    (false ∷ at_column x behind)) a.step.operation) (take_rest units (c.from-into.result + 1)) ∙
+    ap (λ later. made lines (at_column x (take c.from-into.result units) ++
+    (false ∷ at_column x later)) a.step.operation) (take_rest units (c.from-into.result + 1)) ∙
     ap (λ n. made lines (at_column x (take n (take after.result a.slots.now)) ++
     (false ∷ at_column x (drop (n + 1) (take after.result a.slots.now)))) a.step.operation) place ∙
     ap (λ n. made lines (at_column x (take a.step.into (take n a.slots.now)) ++

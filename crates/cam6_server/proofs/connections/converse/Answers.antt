@@ -8,10 +8,10 @@ use Rattle.cam6_server.proofs.connections.converse.Goals as goal
 pub returns-in-Ok : goal.returns-in-Ok
 returns-in-Ok g c =
     let read = g.R.Read.remaining c.args.reader.now in
-    let behind = g.R.Read.remaining c.first_line.new.reader in
+    let after = g.R.Read.remaining c.first_line.new.reader in
     let own = c.in-Ok.ensures.free.own in
-    seated c.seated.result c.in-Ok-Ok.user c.in-Ok.desk read behind _ _ _ own
-    (subst (λ (said : Result ℕ LineFault). FirstSays said read behind) c.in-Ok-Ok.field-0-is
+    seated c.seated.result c.in-Ok-Ok.user c.in-Ok.desk read after _ _ _ own
+    (subst (λ (said : Result ℕ LineFault). FirstSays said read after) c.in-Ok-Ok.field-0-is
     c.in-Ok-Ok.ensures.read)
     (c.seated.ensures c.in-Ok-Ok.user own)
 

@@ -12,14 +12,14 @@ abbrev ok_entry : ℕ → Result ℕ RuleFault
 ok_entry v = Ok v
 
 -- the lane is at the end of the code
-pub returns-then-behind-eq0 : goal.returns-then-behind-eq0
-returns-then-behind-eq0 c =
+pub returns-then-remaining-eq0 : goal.returns-then-remaining-eq0
+returns-then-remaining-eq0 c =
     let code = c.args.code.now in
     let scratch = c.args.scratch.now in
     let address = c.args.address in
-    let behind = slice_index scratch.places.behinds c.args.lane in
+    let remaining = slice_index scratch.places.remaining_by_lane c.args.lane in
     let top = slice_index scratch.places.tops c.args.lane in
-    let none : last_of behind code ≡ [] = drop_all (length code - behind) code (omega arith) in
+    let none : last_of remaining code ≡ [] = drop_all (length code - remaining) code (omega arith) in
     ap ok_entry (c.entry_at_end.ensures.entry top) ∙
     ap (entry_at address)
     (sym (ap (λ (left : List Instruction).

@@ -7,7 +7,7 @@ pub returns : goal.returns
 returns c = record {
   left = λ addresses code places left.
       let same = c.of.ensures in
-      let at = subst (λ (set : List ℕ). AreLeftAt addresses code set c.args.behind places c.args.lanes.now)
+      let at = subst (λ (set : List ℕ). AreLeftAt addresses code set c.args.remaining places c.args.lanes.now)
       (sym same) left in
       record {
         within = left.within;

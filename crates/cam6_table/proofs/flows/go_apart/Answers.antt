@@ -7,12 +7,12 @@ use Rattle.cam6_table.proofs.StepByStep.{spanned_within}
 use Rattle.cam6_table.proofs.TakenAlong.{untouched_left}
 use Rattle.cam6_table.proofs.flows.go_apart.Goals as goal
 
-pub returns-then-behind-target-clause-left : goal.returns-then-behind-target-clause-left
-returns-then-behind-target-clause-left c = λ split.
+pub returns-then-remaining-target-clause-left : goal.returns-then-remaining-target-clause-left
+returns-then-remaining-target-clause-left c = λ split.
     let addresses = c.args.addresses.now in
     let code = c.args.code.now in
     let lanes = c.args.lanes.now in
-    let run = c.run_straight-behind in
+    let run = c.run_straight-remaining in
     let mid = run.new.lanes in
     let within = split.within in
     let parts = c.requires.parts in
@@ -29,14 +29,14 @@ returns-then-behind-target-clause-left c = λ split.
             | inl inside ↦ elim ((parts lane below).one inside) [
               | inl zero ↦
                   left_there (slice_index addresses lane) code _ _ _ _ mid lane
-                  (wait.behinds lane below zero) (wait.tops lane below zero)
+                  (wait.remaining_by_lane lane below zero) (wait.tops lane below zero)
                   (untouched_left (slice_index addresses lane) code _ _ lanes mid lane
                   (run.ensures.left.outside lane below out) (split.zeros lane below zero))
               | inr other ↦ absurd (omega (arith, out, other))
             ]
             | inr none ↦ (let first = (parts lane below).none_first none in
                 left_there (slice_index addresses lane) code _ _ _ _ mid lane
-                (wait.other_behinds lane below first) (wait.other_tops lane below first)
+                (wait.other_remaining lane below first) (wait.other_tops lane below first)
                 (untouched_left (slice_index addresses lane) code _ _ lanes mid lane
                 (run.ensures.left.outside lane below out) (split.outside lane below none)))
           ];
@@ -48,7 +48,7 @@ returns-then-lanes-there-clause-left c = λ split.
     let code = c.args.code.now in
     let flow = c.args.flow.now in
     let lanes = c.args.lanes.now in
-    let run = c.run_straight-behind in
+    let run = c.run_straight-remaining in
     let mid = run.new.lanes in
     let level = c.level-top.ensures in
     let moved = c.level-top.new.lanes in
@@ -101,7 +101,7 @@ returns-else-lanes-there-clause-left c = λ split.
     let code = c.args.code.now in
     let flow = c.args.flow.now in
     let lanes = c.args.lanes.now in
-    let run = c.run_straight-behind in
+    let run = c.run_straight-remaining in
     let mid = run.new.lanes in
     let within = split.within in
     let parts = c.requires.parts in

@@ -13,6 +13,6 @@ loop-lane-preserved c =
     record {
       lanes = length-set l.those l.lane value ∙ l.invariant.lanes;
       each = one_lane_more (λ k v. IsOther v (slice_index set k)
-          (slice_index places.behinds k == c.args.behind && slice_index places.tops k == c.args.top))
+          (slice_index places.remaining_by_lane k == c.args.remaining && slice_index places.tops k == c.args.top))
           l.those l.lane value (omega arith) c.mark_of.ensures l.invariant.each;
     }

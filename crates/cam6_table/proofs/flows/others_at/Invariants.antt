@@ -7,5 +7,5 @@ abbrev pub invariant-loop-lane : goal.invariant-loop-lane
 invariant-loop-lane l = record {
   lanes : length l.those ≡ LANES;
   each : (k : ℕ) → k < l.lane → IsOther (slice_index l.those k) (slice_index l.set k)
-      (slice_index l.places.behinds k == l.behind && slice_index l.places.tops k == l.top);
+      (slice_index l.places.remaining_by_lane k == l.remaining && slice_index l.places.tops k == l.top);
 }

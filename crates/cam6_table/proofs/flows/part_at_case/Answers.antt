@@ -10,7 +10,7 @@ returns-clause-left c = λ addresses left.
     let lanes = c.args.lanes.now in
     let rows = lanes.stacks.rows in
     let len = lanes.stacks.len in
-    let found = c.in_ok-behinds.ensures in
+    let found = c.in_ok-remaining_by_lane.ensures in
     let none = c.in_all.ensures in
     record {
       within = omega arith;
@@ -27,12 +27,12 @@ returns-clause-left c = λ addresses left.
             | inl inside ↦ (
                 let index = found.below lane below inside in
                 let low = (left.floors lane below inside).in_place in
-                left_there address code (slice_index c.in_ok-behinds.behinds lane) (len - 1) _ _ _ lane refl
+                left_there address code (slice_index c.in_ok-remaining_by_lane.remaining_by_lane lane) (len - 1) _ _ _ lane refl
                 (c.put_in-places.ensures.inside lane below inside)
-                (left_in_case address code flow.behind (slice_index c.in_ok-behinds.behinds lane) len lanes _ lane (omega arith)
+                (left_in_case address code flow.remaining (slice_index c.in_ok-remaining_by_lane.remaining_by_lane lane) len lanes _ lane (omega arith)
                 (omega arith) refl refl (left.inside lane below inside) c.args.count c.requires.next
                 (omega (arith, index, is)) (found.within lane below inside)
-                (subst (λ w. LeadsTo code (flow.behind - 1) w (slice_index c.in_ok-behinds.behinds lane)) is
+                (subst (λ w. LeadsTo code (flow.remaining - 1) w (slice_index c.in_ok-remaining_by_lane.remaining_by_lane lane)) is
                 (found.found lane below inside))))
             | inr out ↦
                 left_there address code _ _ _ _ _ lane (found.others lane below out)

@@ -21,7 +21,7 @@ returns-then-distance-eq0-clause-left c = λ next left.
       each = left.each;
       inside = λ lane below inside.
           let v = value_at lane lanes.stacks.rows (len - 1) in
-          left_after_if (slice_index addresses lane) code flow.behind (flow.behind - 1) len lanes _
+          left_after_if (slice_index addresses lane) code flow.remaining (flow.remaining - 1) len lanes _
           lane (omega arith) (let low = (left.floors lane below inside).in_place in omega arith) refl refl (left.inside lane below inside) c.args.distance 0 next
           (never_passes v c.args.distance c.if-distance-eq0.true) (omega arith);
       outside = λ lane below outside. same_left _ _ _ _ lanes _ lane refl refl
@@ -50,7 +50,7 @@ returns-then-parts-eq0-clause-left c = λ next left.
           (slice_index c.split-parts.result.zeros lane) (slice_index c.split-parts.result.others lane)
           (c.split-parts.ensures.zeros lane below) (c.split-parts.ensures.others lane below) inside
           (c.split-parts.ensures.none_zero c.if-parts-eq0.true lane below) in
-          left_after_if (slice_index addresses lane) code flow.behind (flow.behind - 1) len lanes _
+          left_after_if (slice_index addresses lane) code flow.remaining (flow.remaining - 1) len lanes _
           lane (omega arith) (let low = (left.floors lane below inside).in_place in omega arith) refl refl (left.inside lane below inside) c.args.distance 0 next
           (goes_in v c.args.distance (λ is. other (top ∙ is))) (omega arith);
       outside = λ lane below outside. same_left _ _ _ _ lanes _ lane refl refl
@@ -80,7 +80,7 @@ returns-then-parts-eq0-2-clause-left c = λ next left.
           (slice_index c.split-parts.result.zeros lane) (slice_index c.split-parts.result.others lane)
           (c.split-parts.ensures.zeros lane below) (c.split-parts.ensures.others lane below) inside
           (c.split-parts.ensures.none_other c.if-parts-eq0-2.true lane below) in
-          left_after_if (slice_index addresses lane) code flow.behind target.result len lanes _ lane
+          left_after_if (slice_index addresses lane) code flow.remaining target.result len lanes _ lane
           (omega arith) (let low = (left.floors lane below inside).in_place in omega arith) refl refl
           (left.inside lane below inside) c.args.distance
           c.args.distance next (goes_past v c.args.distance (sym top ∙ zero)) target.ensures;
@@ -122,7 +122,7 @@ returns-clause-left c = λ next left.
           (others_are lane below) (left.each lane below) in
           let was = part.first_in inside in
           let low = (left.floors lane below was).in_place in
-          left_after_if (slice_index addresses lane) code flow.behind target.result len lanes _ lane
+          left_after_if (slice_index addresses lane) code flow.remaining target.result len lanes _ lane
           (omega arith) (omega arith) refl refl (left.inside lane below was) c.args.distance
           c.args.distance next (goes_past v c.args.distance (sym is ∙ zero)) target.ensures;
       others = λ lane below inside.
@@ -133,7 +133,7 @@ returns-clause-left c = λ next left.
           let was = set_of_others (set lane) (top lane) (zeros lane) (others lane)
           (zeros_are lane below) (others_are lane below) inside in
           let low = (left.floors lane below was).in_place in
-          left_after_if (slice_index addresses lane) code flow.behind (flow.behind - 1) len lanes _
+          left_after_if (slice_index addresses lane) code flow.remaining (flow.remaining - 1) len lanes _
           lane (omega arith) (omega arith) refl refl (left.inside lane below was) c.args.distance 0
           next (goes_in v c.args.distance (λ same. other (is ∙ same))) (omega arith);
       outside = λ lane below out.

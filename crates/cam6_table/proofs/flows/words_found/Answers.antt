@@ -10,13 +10,13 @@ loop-index-preserved c =
     let l = c.loop-index in
     let code = c.args.code.now in
     let here = c.before-in-loop-index in
-    let put = c.put_in-behinds in
+    let put = c.put_in-remaining_by_lane in
     let set = λ (lane : ℕ). slice_index c.args.set.now lane in
     let indices = λ (lane : ℕ). slice_index c.args.indices.now lane in
     let those = c.those_with-those.ensures in
-    let within = l.invariant.behind in
+    let within = l.invariant.remaining in
     record {
-      behind = omega arith;
+      remaining = omega arith;
       within = λ lane below inside less.
           elim (cases_eq (indices lane) l.index) [
             | inl same ↦ (let is = put.ensures.inside lane below
@@ -33,9 +33,9 @@ loop-index-preserved c =
                 let none : 0 ≡ indices lane - l.index = omega arith in
                 subst (λ b. LeadsTo code c.args.from (indices lane) b) (sym is)
                 (λ address s.
-                word_found address code here.result l.behind c.in-CaseWord.length c.in-CaseWord.after
+                word_found address code here.result l.remaining c.in-CaseWord.length c.in-CaseWord.after
                 s (omega arith) within here.ensures c.in-CaseWord.is ∙
-                ap (λ w. outcome_from address code (record { behind = l.behind; word = Some w }) s)
+                ap (λ w. outcome_from address code (record { remaining = l.remaining; word = Some w }) s)
                 none ∙
                 l.invariant.goes_on (indices lane) (omega arith) address s))
             | inr other ↦ (let is = put.ensures.outside lane below
@@ -49,9 +49,9 @@ loop-index-preserved c =
           l.invariant.others lane below outside;
       goes_on = λ word low address s.
           let next : suc (word - (l.index + 1)) ≡ word - l.index = omega arith in
-          word_passed address code here.result l.behind c.in-CaseWord.length c.in-CaseWord.after s
-          (omega arith) within here.ensures c.in-CaseWord.is c.saturating_sub-behind.result
-          (word - (l.index + 1)) c.saturating_sub-behind.ensures ∙
-          ap (λ w. outcome_from address code (record { behind = l.behind; word = Some w }) s) next ∙
+          word_passed address code here.result l.remaining c.in-CaseWord.length c.in-CaseWord.after s
+          (omega arith) within here.ensures c.in-CaseWord.is c.saturating_sub-remaining.result
+          (word - (l.index + 1)) c.saturating_sub-remaining.ensures ∙
+          ap (λ w. outcome_from address code (record { remaining = l.remaining; word = Some w }) s) next ∙
           l.invariant.goes_on word (omega arith) address s;
     }

@@ -8,14 +8,14 @@ use Rattle.cam6_table.proofs.flows.words_found.Given as goal
 -- lanes with the indices so far are at their words, and the search for others goes on
 abbrev pub invariant-loop-index : goal.invariant-loop-index
 invariant-loop-index l = record {
-  behind : l.behind ≤ length l.code;
+  remaining : l.remaining ≤ length l.code;
   within : (lane : ℕ) → lane < LANES → IsIn l.set lane → slice_index l.indices lane < l.index →
-      slice_index l.behinds lane ≤ length l.code;
+      slice_index l.remaining_by_lane lane ≤ length l.code;
   found : (lane : ℕ) → lane < LANES → IsIn l.set lane → slice_index l.indices lane < l.index →
-      LeadsTo l.code l.from (slice_index l.indices lane) (slice_index l.behinds lane);
+      LeadsTo l.code l.from (slice_index l.indices lane) (slice_index l.remaining_by_lane lane);
   others : (lane : ℕ) → lane < LANES → IsOut l.set lane →
-      slice_index l.behinds lane ≡ slice_index l.old lane;
+      slice_index l.remaining_by_lane lane ≡ slice_index l.old lane;
   goes_on : (word : ℕ) → l.index ≤ word → (address : ℕ) (s : State) →
-      outcome_from address l.code (record { behind = l.behind; word = Some (word - l.index) }) s
-      ≡ outcome_from address l.code (record { behind = l.from; word = Some word }) s;
+      outcome_from address l.code (record { remaining = l.remaining; word = Some (word - l.index) }) s
+      ≡ outcome_from address l.code (record { remaining = l.from; word = Some word }) s;
 }

@@ -7,5 +7,5 @@ returns c = record {
       let waits = c.wait.ensures in
       c.resume.ensures.left addresses
       (all_left addresses c.args.code.now c.args.flow.now c.args.places.now c.wait.new.places
-      c.args.lanes.now left waits.behinds waits.tops waits.other_behinds waits.other_tops);
+      c.args.lanes.now left waits.remaining_by_lane waits.tops waits.other_remaining waits.other_tops);
 }

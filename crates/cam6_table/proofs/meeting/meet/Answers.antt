@@ -21,7 +21,7 @@ returns c = record {
       let those = λ (lane : ℕ). slice_index c.others_at-those.result lane in
       let both = λ (lane : ℕ). slice_index c.put_in-both.result lane in
       let put = c.put_in-both.ensures in
-      let others = others_left addresses code c.args.flow.now places lanes left c.args.next.behind
+      let others = others_left addresses code c.args.flow.now places lanes left c.args.next.remaining
       c.args.next.top c.from-there.result c.others_at-those.result c.requires.here
       c.from-there.ensures c.others_at-those.ensures in
       c.flow_of.ensures.left addresses code places (record {

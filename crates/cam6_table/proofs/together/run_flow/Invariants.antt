@@ -6,4 +6,4 @@ abbrev pub invariant-loop-flow : goal.invariant-loop-flow
 invariant-loop-flow l = AreLeftWith l.addresses l.code l.flow l.places l.lanes
 
 abbrev pub decreases-loop-flow : goal.decreases-loop-flow
-decreases-loop-flow l = l.flow.behind
+decreases-loop-flow l = l.flow.remaining

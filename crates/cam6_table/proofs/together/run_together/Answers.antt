@@ -7,5 +7,5 @@ returns c =
     record {
       left = all_left c.args.addresses.now c.args.code.now c.run_flows.new.flow
           c.run_flows.new.places c.wait.new.places c.run_flows.new.lanes c.run_flows.ensures.left
-          waits.behinds waits.tops waits.other_behinds waits.other_tops;
+          waits.remaining_by_lane waits.tops waits.other_remaining waits.other_tops;
     }

@@ -7,20 +7,20 @@ returns-clause-said c =
     let plane = c.in_ok-plane.plane in
     let row = c.in_ok-row.row in
     let digits = c.in_ok-digits.digits.now in
-    let behind_row =
+    let after_row =
     c.in_ok-rest.ensures ∙
     ap (λ (front : List ℕ). front ++ c.in_ok-rest.rest.now) c.as_slice-3.ensures ∙
     ap (λ (rest : List ℕ). codes ",\"bits\":\"" ++ rest)
     (c.in_ok-digits.ensures ∙ ap (λ (end : List ℕ). digits ++ end) c.as_slice-4.ensures) in
-    let behind_plane =
-    c.in_ok-behind-2.ensures ∙
-    ap (λ (front : List ℕ). front ++ c.in_ok-behind-2.field-0.now) c.as_slice-2.ensures ∙
+    let after_plane =
+    c.in_ok-strip_prefix-2.ensures ∙
+    ap (λ (front : List ℕ). front ++ c.in_ok-strip_prefix-2.field-0.now) c.as_slice-2.ensures ∙
     ap (λ (rest : List ℕ). codes ",\"row\":" ++ rest)
-    (c.in_ok-row.ensures.0 ∙ ap (λ (rest : List ℕ). decimal row ++ rest) behind_row) in
+    (c.in_ok-row.ensures.0 ∙ ap (λ (rest : List ℕ). decimal row ++ rest) after_row) in
     says_set c.args.line.now plane row digits c.in_ok-bits.bits c.requires.short
     c.in_ok-plane.ensures.1 c.in_ok-row.ensures.1
-    (c.in_ok-behind.ensures ∙
-    ap (λ (front : List ℕ). front ++ c.in_ok-behind.field-0.now) c.as_slice.ensures ∙
+    (c.in_ok-strip_prefix.ensures ∙
+    ap (λ (front : List ℕ). front ++ c.in_ok-strip_prefix.field-0.now) c.as_slice.ensures ∙
     ap (λ (rest : List ℕ). codes "{\"do\":\"set\",\"plane\":" ++ rest)
-    (c.in_ok-plane.ensures.0 ∙ ap (λ (rest : List ℕ). decimal plane ++ rest) behind_plane))
+    (c.in_ok-plane.ensures.0 ∙ ap (λ (rest : List ℕ). decimal plane ++ rest) after_plane))
     (sym c.in_ok-bits.ensures)

@@ -5,7 +5,7 @@ use Rattle.cam6_board.specs.declared.boards.BandEnd.TheVariants.{Inside}
 use Rattle.cam6_board.specs.Images.{is_rest}
 use Rattle.cam6_board.specs.Jobs.{StoredJob, stored_job}
 use Rattle.cam6_board.specs.Bands.{end_of, Moves}
-use Rattle.cam6_board.proofs.Moving.{inside, behind}
+use Rattle.cam6_board.proofs.Moving.{inside, beyond}
 use Rattle.cam6_board.proofs.jobs.Job.band.Goals as goal
 
 pub returns-then-not-is_rest : goal.returns-then-not-is_rest
@@ -36,5 +36,5 @@ returns c =
     subst (λ (b : StoredJob). Moves c.args.tables.now b c.end_of.result after) c.self.view_is
     (subst (λ (e : BandEnd). Moves c.args.tables.now before e after) (sym c.end_of.ensures)
     (subst (Moves c.args.tables.now before (end_of left)) (sym there)
-    (behind c.args.tables.now before image (values_of c.go_by-after.result.0)
+    (beyond c.args.tables.now before image (values_of c.go_by-after.result.0)
     c.go_by-after.ensures.tables c.band.ensures.goes_on c.band.ensures.planes left rest less)))

@@ -2,7 +2,7 @@ use Rattle.std.proofs.Common.{◌∙◌, Option, sym, ap, subst, set}
 use Rattle.std.specs.List.{slice_get}
 use Rattle.cam6_cache.specs.Cached.{Cached}
 use Rattle.cam6_slot.specs.Works.{StoredWork}
-use Rattle.cam6_station.specs.Loading.{IsBehindLoads}
+use Rattle.cam6_station.specs.Loading.{IsAfterLoads}
 use Rattle.cam6_core.specs.State.{State, board_of}
 use Rattle.cam6_core.specs.Goes.{LoadsFor, Moves}
 use Rattle.cam6_core.specs.declared.parts.Whereabouts.{Whereabouts}
@@ -56,6 +56,6 @@ returns-clause-loads c =
     let new = c.load.new.self in
     subst (λ (o : Option Whereabouts). LoadsFor o s.cache new.cache)
     (sym c.in-Queued.ensures.was)
-    (subst (λ (w : StoredWork). IsBehindLoads w s.cache new.cache) c.lease-lease.ensures.work
-    (subst (λ (k : Cached). IsBehindLoads c.lease-lease.result.0.work k new.cache)
+    (subst (λ (w : StoredWork). IsAfterLoads w s.cache new.cache) c.lease-lease.ensures.work
+    (subst (λ (k : Cached). IsAfterLoads c.lease-lease.result.0.work k new.cache)
     (ap (λ (z : State). z.cache) c.take_user.ensures.now) c.load.ensures.loads))

@@ -4,7 +4,7 @@ use Rattle.cam6_planes.specs.Stored.{Stored}
 use Rattle.cam6_slot.specs.Works.{StoredWork}
 use Rattle.cam6_slot.specs.Leases.{StoredLease, JobFits, TablesFit}
 use Rattle.cam6_slot.specs.Stands.{StandsOut}
-use Rattle.cam6_slot.proofs.Banding.{fits_inside, fits_behind, stands_inside, stands_behind}
+use Rattle.cam6_slot.proofs.Banding.{fits_inside, fits_after, stands_inside, stands_after}
 use Rattle.cam6_slot.proofs.leases.Lease.advance.Goals as goal
 
 pub returns-then-from-side-clause-stands : goal.returns-then-from-side-clause-stands
@@ -54,7 +54,7 @@ returns-clause-stands c m by before after end tables true_tables stands moves =
     } in
     let there = subst (λ (x : StoredLease). StandsOut x before m by) same stands in
     subst (λ (w : StoredWork). StandsOut (record { work = w; rows = 0; board = c.self.inside.board }) after m by) (sym c.go.ensures)
-    (stands_behind l before after end tables there.fits moves m by c.self.invariant.work
+    (stands_after l before after end tables there.fits moves m by c.self.invariant.work
     (subst (λ (x : StoredLease). TablesFit x.work tables) same true_tables) there
     (omega (
       arith,
@@ -73,7 +73,7 @@ returns-clause-fits c before after end tables fits moves =
       board = c.self.inside.board;
     } in
     subst (λ (w : StoredWork). JobFits (record { work = w; rows = 0; board = c.self.inside.board }) after) (sym c.go.ensures)
-    (fits_behind l before after end tables
+    (fits_after l before after end tables
     (subst (λ (x : StoredLease). JobFits x before) same fits) moves
     (omega (
       arith,

@@ -1,7 +1,7 @@
 use Rattle.std.proofs.Common.{◌≡◌, ◌<◌, ◌≤◌, ℕ, [], slice_index_or}
 use Rattle.cam6_cycle.specs.Limits.{max_tables}
 use Rattle.cam6_slot.specs.Needs.{needs_of, IsTableNeeded}
-use Rattle.cam6_station.specs.Loading.{IsBehindLoadsOf}
+use Rattle.cam6_station.specs.Loading.{IsAfterLoadsOf}
 use Rattle.cam6_station.proofs.fillings.Filling.fill.Given as goal
 
 abbrev pub invariant-loop-index : goal.invariant-loop-index
@@ -11,6 +11,6 @@ invariant-loop-index l = record {
   few : l.index-end ≤ max_tables;
   filled : (k : ℕ) → k < l.index →
       IsTableNeeded l.lease.work k (slice_index_or l.self k []);
-  loads : IsBehindLoadsOf l.lease.work l.index l.fn.cache l.cache;
+  loads : IsAfterLoadsOf l.lease.work l.index l.fn.cache l.cache;
   capacity : l.cache.capacity ≡ l.fn.cache.capacity;
 }

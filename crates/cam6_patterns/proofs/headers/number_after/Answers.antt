@@ -1,6 +1,6 @@
 use Rattle.std.proofs.Common.{refl, sym, ◌∙◌, arith, ◌+◌, ◌*◌, ◌-◌}
 use Rattle.cam6_patterns.proofs.Numbers.{stands_itself, stands_more, digit_more}
-use Rattle.cam6_patterns.proofs.headers.number_behind.Goals as goal
+use Rattle.cam6_patterns.proofs.headers.number_after.Goals as goal
 
 pub loop-byte-init : goal.loop-byte-init
 loop-byte-init c = (c.args.first, refl, stands_itself c.args.first, omega arith)

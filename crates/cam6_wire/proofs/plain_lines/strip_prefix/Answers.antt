@@ -1,7 +1,7 @@
 use Rattle.std.proofs.Common.{◌∙◌, ◌++◌, length, drop, ap, sym}
 use Rattle.std.proofs.Common.{take-append-drop}
 use Rattle.std.specs.Cmp.Lexicographic.{same_text}
-use Rattle.cam6_wire.proofs.plain_lines.behind.Goals as goal
+use Rattle.cam6_wire.proofs.plain_lines.strip_prefix.Goals as goal
 
 pub returns : goal.returns
 returns c =
