@@ -19,12 +19,12 @@ pub enough : GoingThroughIsEnough
 enough es rs old new through =
     (headline_from_new es rs old new through, counts es rs old new through)
 
--- what a user got are the replies to his commands, or lacks the last of them
+-- what a user got are the replies to their commands, or lacks the last of them
 got_replies : (u : ℕ) (limit : Side) (cs : List Command) (xs : List Reply)
     (x : Option Whereabouts) → Got u limit cs xs x → AreGiven x xs (replies (blank limit) cs)
 got_replies u limit cs xs x got =
     let head = headline_from_new got.events got.outcomes got.old got.new got.run got.limits
-    got.boards got.is_new u limit got.his in
+    got.boards got.is_new u limit got.theirs in
     subst (λ (o : Option Whereabouts). AreGiven o xs (replies (blank limit) cs)) got.stands
     (subst (λ (ys : List Reply). AreGiven (at_number got.new.users u) ys
     (replies (blank limit) cs)) got.given_then

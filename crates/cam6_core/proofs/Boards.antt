@@ -64,7 +64,7 @@ module _ (s : State) (b u : ℕ) (h : Held)
       (law work.1.0 work.1.2)) (fits (model.with_user a u (at_stage p (f p.stage))).users)
       (rests_anywhere (set a.boards b t) u (f p.stage)
       (subst (λ (z : Stage). IsOnNone (f z)) (sym work.1.1) (rests work.1.0)))
-      (λ v apart his. apart (sym (subst (IsLoadedFor v) work.0 his)))
+      (λ v apart theirs. apart (sym (subst (IsLoadedFor v) work.0 theirs)))
 
   seat_of : (a : Model) → Good s a → seat a.boards b ≡ loaded u (held_left h) (held_home h)
   seat_of a good =
@@ -96,7 +96,7 @@ module _ (s : State) (b u : ℕ) (h : Held)
               sym on.home,
               subst (IsOutWith (machine_of p) b k) (sym work.1.1)
                   (refl, on.stands (machine_of p) work.1.0 work.1.2, on.fits, on.board ∙ work.1.3),
-            ) (λ v his. subst (IsLoadedFor v) work.0 his),
+            ) (λ v theirs. subst (IsLoadedFor v) work.0 theirs),
       )
 
   pub band_last : IsNumber (length s.users) u → (f : StoredFinished) → held_left h ≡ 1 →
@@ -167,8 +167,8 @@ idle_fails s b at a good =
     (sym (at_idle a.users b (seat a.boards b) (good.boards b board.idle at))) (
       refl,
       board_moves s a good b board.dead dead (within s.boards b board.idle at) tt
-          (λ v his. subst (IsLoadedFor v)
-          (at_idle a.users b (seat a.boards b) (good.boards b board.idle at)) his),
+          (λ v theirs. subst (IsLoadedFor v)
+          (at_idle a.users b (seat a.boards b) (good.boards b board.idle at)) theirs),
     )
 
 pub idle_spares : (s : State) (b : ℕ) (y : Manned) → slice_get s.boards b ≡ Some board.idle →
@@ -182,8 +182,8 @@ pub repaired : (s : State) (b : ℕ) → slice_get s.boards b ≡ Some board.dea
 repaired s b at a good = (
   refl,
   board_moves s a good b board.idle idle (within s.boards b board.dead at) tt
-      (λ v his. subst (IsLoadedFor v)
-      (at_death a.users b (seat a.boards b) (good.boards b board.dead at)) his),
+      (λ v theirs. subst (IsLoadedFor v)
+      (at_death a.users b (seat a.boards b) (good.boards b board.dead at)) theirs),
 )
 
 -- what a board held of which a call says by cases what it made

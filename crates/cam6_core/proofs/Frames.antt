@@ -48,21 +48,21 @@ seat_here ss b t is = ap or_none (set_here ss b t is)
 seat_else : (ss : List Seat) (b d : ℕ) (t : Seat) → d ≢ b → seat (set ss b t) d ≡ seat ss d
 seat_else ss b d t apart = ap or_none (set_else ss b d t apart)
 
--- who is out on no board wants none that is his
+-- who is out on no board wants none that is theirs
 pub rests_anywhere : (bs : List Seat) (u : ℕ) (stage : Stage) → IsOnNone stage →
     IsOnHisBoard bs u stage
 rests_anywhere bs u (out d c) free = absurd free
 rests_anywhere bs u stage free = tt
 
 -- one board changes, and is still loaded for whom it was
-still_his : (bs : List Seat) (b : ℕ) (t : Seat) (v : ℕ) (stage : Stage) → b < length bs →
+still_theirs : (bs : List Seat) (b : ℕ) (t : Seat) (v : ℕ) (stage : Stage) → b < length bs →
     (IsLoadedFor v (seat bs b) → IsLoadedFor v t) → IsOnHisBoard bs v stage →
     IsOnHisBoard (set bs b t) v stage
-still_his bs b t v (out d c) there stays his = dite (ℕ_discrete d b)
+still_theirs bs b t v (out d c) there stays theirs = dite (ℕ_discrete d b)
     (λ same. subst (IsLoadedFor v) (sym (ap (seat (set bs b t)) same ∙ seat_here bs b t there))
-    (stays (subst (λ k. IsLoadedFor v (seat bs k)) same his)))
-    (λ apart. subst (IsLoadedFor v) (sym (seat_else bs b d t apart)) his)
-still_his bs b t v stage there stays his = tt
+    (stays (subst (λ k. IsLoadedFor v (seat bs k)) same theirs)))
+    (λ apart. subst (IsLoadedFor v) (sym (seat_else bs b d t apart)) theirs)
+still_theirs bs b t v stage there stays theirs = tt
 
 -- a board that doesn't hold the user
 others : (us : List User) (u : ℕ) (p : User) (b : ℕ) (y : Manned) (t : Seat) →
@@ -166,7 +166,7 @@ module _ (s : State) (a : Model) (good : Good s a) where
     boards_long = length-set s.boards b y ∙ good.boards_long ∙ sym (length-set a.boards b t);
     users = good.users;
     boards = boards_set a.users b y t is fits (λ d z r apart held. held);
-    out = λ v. still_his a.boards b t v (user a.users v).stage
+    out = λ v. still_theirs a.boards b t v (user a.users v).stage
         (omega (arith, is, good.boards_long)) (stays v) (good.out v);
     tables = good.tables;
   }
@@ -187,8 +187,8 @@ module _ (s : State) (a : Model) (good : Good s a) where
         (λ h out. not_there (machine_of (user a.users u)) b d h (user a.users u).stage only apart
         out) at);
     out = users_out u p (set a.boards b t) is mine
-        (λ v apart. still_his a.boards b t v (user a.users v).stage
-        (omega (arith, there, good.boards_long)) (λ his. absurd (nobody v apart his))
+        (λ v apart. still_theirs a.boards b t v (user a.users v).stage
+        (omega (arith, there, good.boards_long)) (λ theirs. absurd (nobody v apart theirs))
         (good.out v));
     tables = good.tables;
   }

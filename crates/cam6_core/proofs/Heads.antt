@@ -51,7 +51,7 @@ replies_in_order limit (c ∷ cs) =
     ap (λ m. replies (blank limit) (in_order cs) ++ reply m c ∷ []) (alone_in_order limit cs) ∙
     ap (λ xs. xs ++ reply (alone limit cs) c ∷ []) (replies_in_order limit cs)
 
--- where a user is as the model has him, the replies to what is done are all, or all but the last
+-- where a user is as the model has them, the replies to what is done are all, or all but the last
 are_given : (m : Machine) (x : Whereabouts) (stage : Stage) (limit : Side) (cs : List Command) →
     UserFits m x stage → AreGiven (Some x) (in_order (replies_of limit cs))
     (in_order (replies_of limit (listed_at stage cs)))

@@ -40,7 +40,7 @@ listed_at (queued c left home) cs = c ∷ cs
 listed_at (out b c) cs = c ∷ cs
 listed_at (finished c) cs = c ∷ cs
 
--- the commands of a user that were accepted, and the replies that he has collected, in order
+-- the commands of a user that were accepted, and the replies that they have collected, in order
 abbrev pub asked : User → List Command
 asked p = in_order (listed_at p.stage p.done)
 
@@ -52,7 +52,7 @@ neither : {A : Type 0} (b : Bool) → cond {A = List A} b [] [] ≡ []
 neither true = refl
 neither false = refl
 
--- from one user to another of his limit with these commands and these replies beside
+-- from one user to another of their limit with these commands and these replies beside
 pub record Gains (p q : User) (cs : List Command) (xs : List Reply) : Type 0 where
   pub limit : q.limit ≡ p.limit
   pub asks : asked q ≡ asked p ++ cs

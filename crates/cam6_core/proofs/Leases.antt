@@ -31,7 +31,7 @@ idle_at (Some (board.loaded u h)) e = cc e
 idle_at (Some board.dead) e = cc e
 idle_at None e = cc e
 
--- the user is out, and the board loaded for him; the cache has been asked for tables
+-- the user is out, and the board loaded for them; the cache has been asked for tables
 abbrev pub leased : State → ℕ → ℕ → Held → Cached → State
 leased s u b h cache = record {
   users = with_number s.users u whereabouts.Out;
@@ -75,8 +75,8 @@ lease_moves s u b q h cache at free law left home fits on cached a good =
           (refl, law m c waits.2, fits, on),
     ) (subst (IsLoadedFor u) (sym (seat_here a.boards b
     (loaded u (queued_left q) (queued_home q)) there)) refl)
-    (λ v apart his. subst (IsLoadedFor v)
-    (at_idle a.users b (seat a.boards b) (good.boards b board.idle free)) his) in
+    (λ v apart theirs. subst (IsLoadedFor v)
+    (at_idle a.users b (seat a.boards b) (good.boards b board.idle free)) theirs) in
     subst (λ (t : Stage).
     (Leased (queued_left q) ≡ (lease a u b p t).1)
     × Good (leased s u b h cache) (lease a u b p t).0) (sym waits.1) (

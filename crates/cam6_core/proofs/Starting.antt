@@ -39,7 +39,7 @@ one_more n limits users r d made some new = record {
   ];
 }
 
--- a user who begins is as the model has him
+-- a user who begins is as the model has them
 fits_newcomer : (limit : Side) (x : Whereabouts) → IsNewcomer limit x →
     UserFits (blank limit) x resting
 fits_newcomer limit (Resting r) is = is

@@ -87,7 +87,7 @@ pub record Got (u : ℕ) (limit : Side) (cs : List Command) (xs : List Reply) (x
   pub outcomes : List Outcome
   pub new : State
   pub is_new : Good old (fresh limits boards)
-  pub his : at_number limits u ≡ Some limit
+  pub theirs : at_number limits u ≡ Some limit
   pub run : GoThrough old events outcomes new
   pub asked : commands u events outcomes ≡ cs
   pub given_then : given u events outcomes ≡ xs

@@ -69,8 +69,8 @@ module _ (users : ℕ) (k next : Configuration) (a : Model) (b row : ℕ) (at : 
   abbrev p : User
   p = user a.users u
 
-  his : HasUser a u p
-  his = has_user k.held a at.good row (omega (arith, small, at.said.long))
+  theirs : HasUser a u p
+  theirs = has_user k.held a at.good row (omega (arith, small, at.said.long))
 
   number : IsNumber (length a.users) u
   number = is_of_row (length a.users) row users (sym at.good.users_long ∙ at.said.long) small
@@ -148,7 +148,7 @@ module _ (users : ℕ) (k next : Configuration) (a : Model) (b row : ℕ) (at : 
       (option_map posture o) ≡ None) (sym does.idle) refl)) moves in
       let leads : (transition a (event.Lease u b)).0
       ≡ with_both a u (at_stage p (out b c)) b (loaded u left home) =
-      ap (λ (t : Model × Outcome). t.0) (leases a p u b his c left home waits.1) in
+      ap (λ (t : Model × Outcome). t.0) (leases a p u b theirs c left home waits.1) in
       let to = takes_it k.table next.table row (3 + b) does.seat (Idle b) (Holds b row q)
       (Some (Queued q)) does.step in
       let rule : Rule users next.table =
@@ -214,7 +214,7 @@ module _ (users : ℕ) (k next : Configuration) (a : Model) (b row : ℕ) (at : 
       let y : User = at_stage p (queued c left then) in
       let leads : (transition a (event.Preempt b)).0 ≡ with_both a u y b idle =
       ap (λ (t : Model × Outcome). t.0)
-      (preempts a p u b his left home (has on does.loaded) c work.1) in
+      (preempts a p u b theirs left home (has on does.loaded) c work.1) in
       let to = gives_it k.table next.table row 1 does.seat (Holds b row does.taken) (Idle b)
       (Some (Queued q)) does.step in
       let rule : Rule users next.table =
@@ -258,7 +258,7 @@ module _ (users : ℕ) (k next : Configuration) (a : Model) (b row : ℕ) (at : 
       let y : User = at_stage p (queued c home home) in
       let leads : (transition a (event.Fail b)).0 ≡ with_both a u y b dead =
       ap (λ (t : Model × Outcome). t.0)
-      (fails a p u b his left home (has on does.loaded) c work.1) in
+      (fails a p u b theirs left home (has on does.loaded) c work.1) in
       let to = gives_it k.table next.table row 1 does.seat (Holds b row does.taken) (Idle b)
       (Some (Queued q)) does.step in
       let rule : Rule users next.table =
@@ -300,7 +300,7 @@ module _ (users : ℕ) (k next : Configuration) (a : Model) (b row : ℕ) (at : 
       let one : HasSeat a b (loaded u 1 home) =
       subst (λ (n : ℕ). HasSeat a b (loaded u n home)) does.call.1 (has on does.loaded) in
       let leads : (transition a (event.Band b)).0 ≡ with_both a u y b idle =
-      ap (λ (t : Model × Outcome). t.0) (finishes a p u b his home c one work.1) in
+      ap (λ (t : Model × Outcome). t.0) (finishes a p u b theirs home c one work.1) in
       let to = gives_it k.table next.table row 2 does.seat (Holds b row does.taken) (Idle b)
       (Some (Finished f)) does.step in
       let rule : Rule users next.table =

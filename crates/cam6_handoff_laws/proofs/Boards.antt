@@ -41,7 +41,7 @@ module _ (a : Model) (p : User) (u b : ℕ) (has : HasUser a u p) where
 
   module _ (left home : ℕ) (seat : HasSeat a b (loaded u left home)) (c : Command)
       (is : p.stage ≡ out b c) where
-    -- a board that has his command is freed of it
+    -- a board that has their command is freed of it
     pub preempts :
         let after = home_after (bands_of_step (machine_of p).side) left home in
         transition a (event.Preempt b) ≡
@@ -125,8 +125,8 @@ module _ (a : Model) (p : User) (b : ℕ) (taken : StoredQueued) (step : Step Sl
     (before after : Seated) (found : ℕ) (has : HasUser a (user_of step) p)
     (says : Says (machine_of p) found None p.stage) (at : before.0 ≡ Holds b step.word taken) where
   -- the word that a board's seat found says that it has the command
-  his : (n : ℕ) → GiveTells n step before found after → (c : Command) × (p.stage ≡ out b c)
-  his n tells = said.is_out (machine_of p) found b p.stage
+  theirs : (n : ℕ) → GiveTells n step before found after → (c : Command) × (p.stage ≡ out b c)
+  theirs n tells = said.is_out (machine_of p) found b p.stage
       (tells.0 ∙ ap (λ v. 3 + board_in v) at) says
 
   pub back_is_preempt : (left home : ℕ) (q : StoredQueued) →
@@ -137,7 +137,7 @@ module _ (a : Model) (p : User) (b : ℕ) (taken : StoredQueued) (step : Step Sl
       (Some (Queued q)) b idle
   back_is_preempt left home q seat tells stands off =
       let u = user_of step in
-      let out_with = his 1 tells in
+      let out_with = theirs 1 tells in
       let c = out_with.0 in
       let later = home_after (bands_of_step (machine_of p).side) left home in
       led_at a p u b has (event.Preempt b) (outcome.Preempted left) step.first (Some (Queued q))
@@ -155,7 +155,7 @@ module _ (a : Model) (p : User) (b : ℕ) (taken : StoredQueued) (step : Step Sl
       (Some (Queued q)) b dead
   back_from_home_is_fail left home q seat tells stands from =
       let u = user_of step in
-      let out_with = his 1 tells in
+      let out_with = theirs 1 tells in
       let c = out_with.0 in
       led_at a p u b has (event.Fail b) (outcome.Failed (Some home)) step.first
       (Some (Queued q)) (at_stage p (queued c home home)) (loaded u left home) dead seat
@@ -171,7 +171,7 @@ module _ (a : Model) (p : User) (b : ℕ) (taken : StoredQueued) (step : Step Sl
       LeadsAt a (event.Band b) (outcome.Banded 0) (user_of step) step.first (Some (Finished f)) b idle
   done_is_last_band home f seat tells done =
       let u = user_of step in
-      let out_with = his 2 tells in
+      let out_with = theirs 2 tells in
       let c = out_with.0 in
       led_at a p u b has (event.Band b) (outcome.Banded 0) step.first (Some (Finished f))
       (at_stage p (finished c)) (loaded u 1 home) idle seat

@@ -66,8 +66,8 @@ module _ (users : ℕ) (k next : Configuration) (a : Model) (row : ℕ) (at : Is
   abbrev p : User
   p = user a.users u
 
-  his : HasUser a u p
-  his = has_user k.held a at.good row (omega (arith, small, at.said.long))
+  theirs : HasUser a u p
+  theirs = has_user k.held a at.good row (omega (arith, small, at.said.long))
 
   number : IsNumber (length a.users) u
   number = is_of_row (length a.users) row users (sym at.good.users_long ∙ at.said.long) small
@@ -102,7 +102,7 @@ module _ (users : ℕ) (k next : Configuration) (a : Model) (row : ℕ) (at : Is
       (subst (λ (o : Option Whereabouts). ask_reason (option_map status o) ≡ None)
       (sym does.rests) refl) moves in
       let leads : (transition a (event.Ask u c)).0 ≡ model_with_user a u y =
-      ap (λ (t : Model × Outcome). t.0) (asks a p u his c rest.0 n left any) in
+      ap (λ (t : Model × Outcome). t.0) (asks a p u theirs c rest.0 n left any) in
       let to = gives_it k.table next.table row 1 does.seat (Rests row) (Waits row q)
       (Some (Queued q)) does.step in
       let wide : row < length k.table.words = omega (arith, small, at.said.rule.words) in
@@ -191,7 +191,7 @@ module _ (users : ℕ) (k next : Configuration) (a : Model) (row : ℕ) (at : Is
       (subst (λ (o : Option Whereabouts). collect_reason (option_map status o) ≡ None)
       (sym there) refl) moves in
       let leads : (transition a (event.Collect u)).0 ≡ model_with_user a u y =
-      ap (λ (t : Model × Outcome). t.0) (collects a p u his end.0 end.1) in
+      ap (λ (t : Model × Outcome). t.0) (collects a p u theirs end.0 end.1) in
       let to = takes_it k.table next.table row 0 does.seat (Waits row asked) (Rests row)
       (Some (Finished f)) does.step in
       let wide : row < length k.table.words = omega (arith, small, at.said.rule.words) in
@@ -255,7 +255,7 @@ module _ (users : ℕ) (k next : Configuration) (a : Model) (row : ℕ) (at : Is
       let y : User = at_stage p (finished c) in
       let z : User = record p { done = c ∷ p.done; stage = resting } in
       let one : b ≡ model_with_user a u y =
-      ap (λ (t : Model × Outcome). t.0) (asks_at_once a p u his c rest.0 none) in
+      ap (λ (t : Model × Outcome). t.0) (asks_at_once a p u theirs c rest.0 none) in
       let here : HasUser (model_with_user a u y) u y = here_with a.users u y number in
       let two : (transition (model_with_user a u y) (event.Collect u)).0
       ≡ model_with_user (model_with_user a u y) u z =

@@ -98,12 +98,12 @@ collect_is_collect a p f step before after found has says tells =
     let is : transition a (event.Collect u) ≡ (new, outcome.Collected f.told) =
     collects a p u has at.command at.stage_is ∙
     ap (λ (r : Reply). (new, outcome.Collected r)) (sym at.done.told) in
-    let his = leading.changed a u p y has in (
+    let theirs = leading.changed a u p y has in (
       leading.led a (event.Collect u) (outcome.Collected f.told) u step.second None new y
           (λ (no_table : Bool). subst (λ (o : Option Status). collect_reason o ≡ None)
           (sym (leading.stands a u p (finished at.command) no_table has at.stage_is)) refl)
-          is his
+          is theirs
           (subst (λ (k : ℕ). Says (machine_of y) k None resting) (sym (tells.0 at.word).3) tt),
-      ap (λ (t : Model × Outcome). machine_of (user t.0.users u)) is ∙ ap machine_of his ∙
+      ap (λ (t : Model × Outcome). machine_of (user t.0.users u)) is ∙ ap machine_of theirs ∙
           sym at.done.machine,
     )

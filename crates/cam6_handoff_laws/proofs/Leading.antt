@@ -21,7 +21,7 @@ module _ (a : Model) where
   pub seat_is : (b : ℕ) (s : Seat) → HasSeat a b s → seat a.boards b ≡ s
   seat_is b s has = ap or_none has
 
-  -- where he stands, and where a board does
+  -- where they stand, and where a board does
   pub stands : (u : ℕ) (p : User) (stage : Stage) (no_table : Bool) → HasUser a u p →
       p.stage ≡ stage → (model_standing a no_table).user u ≡ Some (status_of stage)
   stands u p stage no_table has is =
@@ -43,11 +43,11 @@ module _ (a : Model) where
   pub led : (e : Event) (r : Outcome) (u word : ℕ) (slot : Slot) (new : Model) (y : User) →
       ((no_table : Bool) → refusal (model_standing a no_table) e ≡ None) → transition a e ≡ (new, r) →
       user new.users u ≡ y → Says (machine_of y) word slot y.stage → LeadsTo a e r u word slot
-  led e r u word slot new y accepted is his says = record {
+  led e r u word slot new y accepted is theirs says = record {
     accepted = accepted;
     comes = ap (λ (t : Model × Outcome). t.1) is;
     says =
-        let his' : user (transition a e).0.users u ≡ y =
-        ap (λ (t : Model × Outcome). user t.0.users u) is ∙ his in
-        subst (λ (z : User). Says (machine_of z) word slot z.stage) (sym his') says;
+        let theirs' : user (transition a e).0.users u ≡ y =
+        ap (λ (t : Model × Outcome). user t.0.users u) is ∙ theirs in
+        subst (λ (z : User). Says (machine_of z) word slot z.stage) (sym theirs') says;
   }

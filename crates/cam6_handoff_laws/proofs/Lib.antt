@@ -1,6 +1,6 @@
 -- Lemmas, in the order of reading.
 
--- Where a user is, from what his word says.
+-- Where a user is, from what their word says.
 pub mod Said
 -- What a step's event makes of its user and its board.
 pub mod Leading

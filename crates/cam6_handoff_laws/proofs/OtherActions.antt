@@ -73,12 +73,12 @@ module _ (users : ℕ) (k next : Configuration) (a : Model) (at : IsAtModel user
       (row d : ℕ) (h : Held) → IsLoadedWith k row d h → (g : Held) × IsLoadedWith next row d g
   board_stays b old new held there law row d h on = dite (ℕ_discrete d b)
       (λ same.
-      let his = law row h (one_of (slice_get k.held.boards b) old (board.loaded (suc row) h) there
+      let theirs = law row h (one_of (slice_get k.held.boards b) old (board.loaded (suc row) h) there
       (subst (λ (i : ℕ). slice_get k.held.boards i ≡ Some (board.loaded (suc row) h)) same on)) in (
-        his.0,
+        theirs.0,
         ap (λ (s : State). slice_get s.boards d) held ∙
             ap (slice_get (set k.held.boards b new)) same ∙
-            set_here k.held.boards b new (within k.held.boards b old there) ∙ ap Some his.1,
+            set_here k.held.boards b new (within k.held.boards b old there) ∙ ap Some theirs.1,
       ))
       (λ apart. (
         h,
@@ -115,15 +115,15 @@ module _ (users : ℕ) (k next : Configuration) (a : Model) (at : IsAtModel user
       (m, outcome.Banded (held_left on - 1))).0) not_last in
       let said = table_stays does.table (ap (λ (s : State). s.users) does.held)
       (board_stays b (board.loaded v on) (board.loaded v then) does.held does.loaded
-      (λ row h e. still_his row h v on then e)) in (
+      (λ row h e. still_theirs row h v on then e)) in (
         r ∷ [],
         by_event users k next a m (event.Band b) r at goes refl leads said (same_awaited does.table),
       )
     where
-      still_his : (row : ℕ) (h : Held) (v : ℕ) (on then : Held) →
+      still_theirs : (row : ℕ) (h : Held) (v : ℕ) (on then : Held) →
           board.loaded v on ≡ board.loaded (suc row) h →
           (g : Held) × (board.loaded v then ≡ board.loaded (suc row) g)
-      still_his row h v on then e =
+      still_theirs row h v on then e =
           let same : v ≡ suc row = cc e in (then, ap (λ (n : ℕ). board.loaded n then) same)
 
   pub repairs : (b : ℕ) → Repairs k b next →

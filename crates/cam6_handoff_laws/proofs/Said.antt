@@ -1,4 +1,4 @@
--- Where a user is, from what his word says.
+-- Where a user is, from what their word says.
 use Rattle.std.proofs.Common.{◌≡◌, ◌∙◌, ◌+◌, ℕ, zero, suc, List, Some, None, sym, refl, ap, subst}
 use Rattle.std.proofs.Common.{arith, slice_index}
 use mathlib.Core.Option as maybe
