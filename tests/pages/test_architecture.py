@@ -24,17 +24,17 @@ STEPS = [
 HANDOFF = {path.stem: re.sub(r"//.*", "", text_of(path)) for path in sources_of("cam6_handoff")}
 # A function: its indentation, its name, and what is between the name and its end.
 FUNCTION = re.compile(r"^( *)(?:pub(?:\(\w+\))? )?fn (\w+)(.*?)^\1}", re.M | re.S)
-# What changes a word. The words of `turns` are no words of the table.
+# What changes a word. The words of `permits` are no words of the table.
 CHANGE = re.compile(r"(?:\.|::)((?:swap|store|compare_exchange|fetch_)\w*(?:::<[^()]*>)?)\(")
-OTHER_WORDS = "turns"
+OTHER_WORDS = "permits"
 # Changes under which a step isn't one exchange: what is wrong then, the source, and the old text and the new one.
 WRONG = [
-    ("changes", "steps", "shelf.swap::<GivingBack>(", "shelf.store::<GivingBack>("),
+    ("changes", "steps", "table.swap::<GivingBack>(", "table.store::<GivingBack>("),
     ("changes", "seats", "self.taken = Some(row);", "self.table.shared.store(&mut self.seat, row, 1);"),
-    ("changes", "turns", "self.taken.store(0, ", "self.table.shared.store(0, "),
+    ("changes", "permits", "self.taken.store(0, ", "self.table.shared.store(0, "),
     ("makes", "desks", "Some(reply)\n", "steps::collect(&self.table.shared, &mut self.seat, self.row);\n"),
-    ("loops", "steps", "let found = shelf.swap", "for _ in 0..2 {}\n    let found = shelf.swap"),
-    ("steps::collect calls itself", "steps", "MINE) != DONE {", "MINE) != DONE {\n collect(shelf, chair, row);"),
+    ("loops", "steps", "let found = table.swap", "for _ in 0..2 {}\n    let found = table.swap"),
+    ("steps::collect calls itself", "steps", "MINE) != DONE {", "MINE) != DONE {\n collect(table, token, row);"),
     ("desks::try_collect calls itself", "desks", "return None;", "return self.try_collect();"),
     ("desks::try_collect calls itself", "desks", "return None;", "return Some(self.wait(rt));"),
 ]
