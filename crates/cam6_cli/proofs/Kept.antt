@@ -219,13 +219,13 @@ module _ (Fit : List Row → Type 0) (s : Shape) (names : Names)
   step_fits word w h value passes fits =
       to_fits (arg_by_index s.rules w.position) word w h passes fits
 
-  turn_fits : (stopped : Option (Text × List Text)) (w : Walk) (word : Text)
+  round_fits : (stopped : Option (Text × List Text)) (w : Walk) (word : Text)
       → let met = word_met s.rules names w.is_trailing w.waiting w.position word w.held in
       cond (is_some stopped) [] (or_else (word_fault s names w.is_trailing w.waiting word w.held)
       (step_fault s w.position met.0 met.1)) ≡ [] → Fit w.held.rows
       → Fit (walked_from s.rules names stopped w word).held.rows
-  turn_fits (Some p) w word passes fits = fits
-  turn_fits None w word passes fits =
+  round_fits (Some p) w word passes fits = fits
+  round_fits None w word passes fits =
       step_fits word w _ _
       (second_none (word_fault s names w.is_trailing w.waiting word w.held) _ passes)
       (word_fits w.is_trailing w.waiting w.position word w.held (first_none _ _ passes) fits)
@@ -237,7 +237,7 @@ module _ (Fit : List Row → Type 0) (s : Shape) (names : Names)
   walk_fits (word ∷ words) w passes fits =
       walk_fits words (walked s.rules names w word)
       (second_none (read_bound_fault s names w word) _ passes)
-      (turn_fits w.stopped w word (first_none _ _ passes) fits)
+      (round_fits w.stopped w word (first_none _ _ passes) fits)
 
   pub level_fits : (words : List Text) (has_subcommand : Bool) (below : Kinds)
       → level_fault s names nothing_held words has_subcommand below ≡ [] → Fit []

@@ -107,7 +107,7 @@ is_loaded_then idle is = cc is
 is_loaded_then (loaded u h) is = tt
 is_loaded_then dead is = cc is
 
--- a board that isn't loaded any more has no turns left
+-- a board that isn't loaded any more has a smaller measure
 pub none_left : (y after : Manned) → IsLoaded y → is_loaded after ≡ false →
     measure_of after < measure_of y
 none_left idle after is free = absurd is

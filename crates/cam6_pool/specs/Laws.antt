@@ -1,4 +1,4 @@
--- Users take turns.
+-- Users are served in rounds.
 use Rattle.std.specs.Prelude.{ℕ, ◌<◌, ◌≤◌, List, length}
 use Rattle.cam6_pool.specs.Rounds.{Take, AreNextUsers, AreWithout}
 

@@ -82,7 +82,7 @@ abbrev pub ReadsTo : Extent → Line → Option (List ℕ) → Option (List ℕ)
 ReadsTo ToItsEnd result old new held = Reads result old new held
 ReadsTo UntilTooLong result old new held = ReadsWithin result old new held
 
--- a line takes a turn or more, and the bound is met if none is left
+-- a line takes one read or more, and the bound is met if none is left
 abbrev pub CountsReads : Line → ℕ → ℕ → Type 0
 CountsReads Ended old new = new < old
 CountsReads Last old new = new < old

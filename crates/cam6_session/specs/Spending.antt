@@ -10,7 +10,7 @@ abbrev pub TookAsMany : ℕ → ℕ → Option (List ℕ) → Option (List ℕ) 
 TookAsMany before after read remaining =
     IfSome read (λ all. IfSome remaining (λ unread. before + length unread ≤ after + length all))
 
--- each turn took a byte at least, if the bound is met or a line was ended
+-- each read took a byte at least, if the bound is met or a line was ended
 abbrev pub TakesAByteEach : Line → ℕ → ℕ → Option (List ℕ) → Option (List ℕ) → Type 0
 TakesAByteEach line.Ended before after read remaining = TookAsMany before after read remaining
 TakesAByteEach line.Last before after read remaining = ⊤

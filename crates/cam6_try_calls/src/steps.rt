@@ -16,7 +16,7 @@ const NONE: &str =
     : A7 A6 A6 ; : A8 A7 A7 ; : A9 A8 A8 ; : A10 A9 A9 ; : A11 A10 A10 ; : A12 A11 A11 ;";
 
 /// The code leaves so many steps, wherever it is evaluated.
-fn check_turns(rt: &impl Abort, code: &Code, left: u32) {
+fn check_steps(rt: &impl Abort, code: &Code, left: u32) {
     for (address, want) in [(0, 0), (1, 1), (2, 2), (4095, 3)] {
         let mut steps = MAX_EVAL_STEPS;
         let got = eval(code, address, &mut steps);
@@ -29,7 +29,7 @@ fn check_turns(rt: &impl Abort, code: &Code, left: u32) {
 fn check_rule(rt: &impl Abort, alloc: Global, text: &str, left: u32) -> Result<(), Fail> {
     let rule = parse(alloc, text, Half::A, Hood::VonNeumann, Minor::Centers)?;
     let code = Code::of(alloc, &rule)?;
-    check_turns(rt, &code, left);
+    check_steps(rt, &code, left);
     Ok(())
 }
 

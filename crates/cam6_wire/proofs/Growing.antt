@@ -1,4 +1,4 @@
--- Lists that a loop makes longer by one element in each turn.
+-- Lists that a loop makes longer by one element in each round.
 use Rattle.std.proofs.Common.{◌≡◌, ◌∙◌, ◌<◌, ◌+◌, ◌++◌, ◌∷◌, [], ℕ, List, length, get_or, map, take}
 use Rattle.std.proofs.Common.{drop, Option, Some, None, option_map, option_and_then}
 use Rattle.std.proofs.Common.{refl, sym, ap, append_assoc}

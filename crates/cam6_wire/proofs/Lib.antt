@@ -28,7 +28,7 @@ pub mod Worded
 pub mod ColourLists
 -- Colours are as many as the values that they are read of.
 pub mod ColourCount
--- Lists that a loop makes longer by one element in each turn.
+-- Lists that a loop makes longer by one element in each round.
 pub mod Growing
 -- Four values that are planes, one by one.
 pub mod FourPlanes
