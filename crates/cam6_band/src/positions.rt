@@ -37,7 +37,7 @@ pub fn go_by<'a>(
 /// An entry's tables, which lie from the index on, half A's before half B's. A half without a rule
 /// has none, and takes no place.
 fn tables_from<'a>(entry: Entry, index: usize, tables: &'a [Table]) -> EntryTables<'a>
-    requires scratch { index + 2 ≤ length tables.now }
+    requires room { index + 2 ≤ length tables.now }
     ensures { values_of result ≡ tables_from index entry tables.now }
 {
     let Entry { a, b, grid, phase } = entry;

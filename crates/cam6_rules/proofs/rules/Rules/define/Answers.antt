@@ -78,7 +78,7 @@ returns-in-Ok-clause-tables c = λ numbered are.
     let rules = rules_of c.self.inside.by_name.entries in
     let cycle = c.args.cycle.now in
     subst (λ tables. AreTrue tables (rules_of c.put.new.rules.entries) cycle)
-    (sym c.tried_rule.ensures.room)
+    (sym c.tried_rule.ensures.scratch)
     (subst (λ (l : List Rule). AreTrue c.args.scratch.now l cycle) (sym (put c))
     (tables_with (new c) rules cycle c.args.scratch.now c.self.invariant.own (scratch c)
     (subst (λ (l : List Rule). AreNumbered l cycle) (sym c.self.view_is) numbered)
