@@ -101,6 +101,7 @@ def library(tmp_path_factory: pytest.TempPathFactory) -> Callable[[str], str]:
 
     @cache
     def compiled(name: str) -> str:
+        """The path of a library, which is compiled at the first call."""
         path, source = str(folder / f"{name}.so"), str(SUPPORT / f"{name}.c")
         command = [os.environ.get("CC", "cc"), "-shared", "-fPIC", "-O2", "-o", path, source, "-ldl"]
         subprocess.run(command, check=True)

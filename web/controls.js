@@ -82,7 +82,10 @@ export class Controls {
     return this.flashes ? 2 : 1;
   }
 
-  /** @param {number} each steps a frame, or more if the dial asks for it */
+  /**
+   * Shows and takes the steps of a frame.
+   * @param {number} each steps a frame, or more if the dial asks for it
+   */
   setEach(each) {
     this.fields.each.value = String(each);
     this.fields.each.value = String(this.each);

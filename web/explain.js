@@ -42,7 +42,10 @@ const LEFT_OUT = Object.freeze({
   todo: 'Your machine is as it was before the command. Try a smaller one.',
 });
 
-/** @param {number} corner */
+/**
+ * The row and the column of a corner of a block, clockwise from the upper left one.
+ * @param {number} corner
+ */
 const placeOf = corner => [[0, 0], [0, 1], [1, 1], [1, 0]][corner];
 
 /**
@@ -72,7 +75,10 @@ export function blocksOf(answer) {
 /** @type {Record<string, number>} the corners from a cell to the one that it sees, clockwise */
 const TURNS = { CENTER: 0, CW: 1, OPP: 2, CCW: 3 };
 
-/** @type {(name: string, state: number, corner: number, phase: number) => number} */
+/**
+ * The bit that a cell at a corner of a block sees under a name.
+ * @type {(name: string, state: number, corner: number, phase: number) => number}
+ */
 function bitSeen(name, state, corner, phase) {
   const level = name.endsWith("'") ? 1 : 0;
   const plain = name.replace(/^&/, '').replace(/'$/, '');
@@ -128,10 +134,17 @@ export function meetingOf(answer, known) {
   return rule ? blockOf(becomes(answer.states[0], rule, answer.phase), answer.half) : null;
 }
 
-/** @param {string[]} names */
+/**
+ * Names as a list in a sentence: `a, b and c`.
+ * @param {string[]} names
+ */
 const listed = names => names.length < 2 ? names.join('') : `${names.slice(0, -1).join(', ')} and ${names.at(-1)}`;
 
-/** @param {number} address @param {Body} [rule] */
+/**
+ * The sentence that says at which address a rule fails, by the names that are 1 there.
+ * @param {number} address
+ * @param {Body} [rule]
+ */
 function whereItStops(address, rule) {
   if (rule === undefined) {
     return ` It happens at the address ${address}.`;
@@ -142,6 +155,7 @@ function whereItStops(address, rule) {
 }
 
 /**
+ * Explains why a cycle can't be undone.
  * @param {OneWay} answer
  * @param {Explanation} explanation that of the fault, whatever its cause
  * @param {Known} known

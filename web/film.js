@@ -15,6 +15,7 @@ const STORED_BYTES = 65535;
 
 const STREAM = globalThis.CompressionStream ?? null;
 
+/** The CRC-32 of each byte, the table that `crcOf` looks up. */
 function crcTable() {
   return Uint32Array.from({ length: 256 }, (_, n) => {
     for (let bit = 0; bit < 8; bit++) {
@@ -27,7 +28,10 @@ function crcTable() {
 /** @type {Uint32Array|undefined} */
 let crcs;
 
-/** @param {Uint8Array} bytes */
+/**
+ * The CRC-32 of bytes, as a chunk of PNG ends with.
+ * @param {Uint8Array} bytes
+ */
 function crcOf(bytes) {
   crcs ??= crcTable();
   let crc = 0xffffffff;
@@ -37,7 +41,10 @@ function crcOf(bytes) {
   return ~crc >>> 0;
 }
 
-/** @param {Uint8Array} bytes */
+/**
+ * The Adler-32 of bytes, as a stream of zlib ends with.
+ * @param {Uint8Array} bytes
+ */
 function adlerOf(bytes) {
   let low = 1;
   let high = 0;
@@ -48,12 +55,21 @@ function adlerOf(bytes) {
   return (high << 16 | low) >>> 0;
 }
 
-/** @param {number} n */
+/**
+ * A number as four bytes, the highest first.
+ * @param {number} n
+ */
 const number32 = n => [n >>> 24, n >>> 16 & 255, n >>> 8 & 255, n & 255];
-/** @param {number} n */
+/**
+ * A number as two bytes, the highest first.
+ * @param {number} n
+ */
 const number16 = n => [n >>> 8 & 255, n & 255];
 
-/** @param {Bytes[]} parts */
+/**
+ * The parts as one array of bytes.
+ * @param {Bytes[]} parts
+ */
 function joined(parts) {
   const bytes = new Uint8Array(parts.reduce((sum, part) => sum + part.length, 0));
   let at = 0;
@@ -64,7 +80,11 @@ function joined(parts) {
   return bytes;
 }
 
-/** @param {string} type @param {Bytes} data */
+/**
+ * A chunk of a PNG file: its size, its type, its data and its CRC.
+ * @param {string} type
+ * @param {Bytes} data
+ */
 function chunk(type, data) {
   const body = joined([[...type].map(letter => letter.charCodeAt(0)), data]);
   return joined([number32(data.length), body, number32(crcOf(body))]);
@@ -122,6 +142,7 @@ function packed(pixels, width, { x, y, wide, high }, scale) {
 }
 
 /**
+ * The beginning of a PNG file: its signature, its size and its palette.
  * @param {number} width
  * @param {number} height
  * @returns {Bytes[]}

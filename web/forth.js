@@ -84,7 +84,11 @@ const SEEN = Object.freeze({
   "&PHASE'": "The high bit of the entry's phase.",
 });
 
-/** @param {string} name @param {string} half */
+/**
+ * What a cell sees under a name, as a sentence.
+ * @param {string} name
+ * @param {string} half
+ */
 function sentenceOfName(name, half) {
   const [lower, upper] = half === 'B' ? [2, 3] : [0, 1];
   if (name.startsWith('&CENTER')) {
@@ -112,7 +116,10 @@ export function namesOf(hood, minor, half) {
 
 /** @typedef {{word: string, before?: string, after?: string, sentence: string}} Word */
 
-/** @type {(word: string, before: string, after: string, sentence: string) => Readonly<Word>} */
+/**
+ * A word of the language for the help.
+ * @type {(word: string, before: string, after: string, sentence: string) => Readonly<Word>}
+ */
 const word = (word, before, after, sentence) => Object.freeze({ word, before, after, sentence });
 
 /** The words of the language: what they take from the stack, what they leave there, and what they do. */
@@ -219,7 +226,12 @@ function definitionsOf(text) {
   return { definitions, last };
 }
 
-/** @param {string[]} body @param {number} at @param {string[]} ends */
+/**
+ * The index of the first of the words `ends` from `at` on, past choices that lie within.
+ * @param {string[]} body
+ * @param {number} at
+ * @param {string[]} ends
+ */
 function skip(body, at, ends) {
   for (let depth = 0; ; at++) {
     if (depth === 0 && ends.includes(body[at])) {
@@ -246,7 +258,10 @@ class Evaluation {
     return this.stack.pop() ?? 0;
   }
 
-  /** @param {string} spelling */
+  /**
+   * Executes a word of the language, or what a name stands for.
+   * @param {string} spelling
+   */
   word(spelling) {
     const { stack } = this;
     if (Object.hasOwn(ONE_VALUE, spelling)) {
@@ -264,7 +279,10 @@ class Evaluation {
     }
   }
 
-  /** @param {string} name of what a cell sees, or of a definition, or else a number */
+  /**
+   * Pushes the value of a name or number, or executes the definition of this name.
+   * @param {string} name of what a cell sees, or of a definition, or else a number
+   */
   named(name) {
     const body = this.seen.has(name) ? undefined : this.definitions.get(name);
     if (body === undefined) {
@@ -274,7 +292,10 @@ class Evaluation {
     }
   }
 
-  /** @param {string[]} words */
+  /**
+   * Executes the words of a definition.
+   * @param {string[]} words
+   */
   body(words) {
     for (let at = 0; at < words.length; at++) {
       if (words[at] === 'IF') {

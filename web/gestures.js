@@ -33,7 +33,10 @@ export class Gestures {
     canvas.addEventListener('wheel', event => this.wheel(event), { passive: false });
   }
 
-  /** @param {PointerEvent} event */
+  /**
+   * Begins a stroke, or moves of the view if there are two pointers or another button.
+   * @param {PointerEvent} event
+   */
   down(event) {
     const { torus, handler, pointers } = this;
     torus.canvas.focus({ preventScroll: true });
@@ -54,7 +57,10 @@ export class Gestures {
     event.preventDefault();
   }
 
-  /** @param {PointerEvent} event */
+  /**
+   * Goes on with the stroke, or with the move of the view.
+   * @param {PointerEvent} event
+   */
   moved(event) {
     const { torus, handler, pointers } = this;
     handler.hover(torus.cellOf(event));
@@ -90,6 +96,7 @@ export class Gestures {
   }
 
   /**
+   * Ends the stroke, or the move of the view.
    * @param {PointerEvent} event
    * @param {boolean} isWhole whether the pointer went up, and wasn't taken away
    */
@@ -106,7 +113,10 @@ export class Gestures {
     }
   }
 
-  /** @param {WheelEvent} event */
+  /**
+   * Zooms the view at the pointer.
+   * @param {WheelEvent} event
+   */
   wheel(event) {
     event.preventDefault();
     const { torus } = this;

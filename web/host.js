@@ -55,7 +55,10 @@ export class Host {
     });
   }
 
-  /** @param {unknown} text */
+  /**
+   * Gives a message to the line that has waited longest. Closes if none waits, or if it is no text.
+   * @param {unknown} text
+   */
   #answered(text) {
     const waiting = this.#waiting.shift();
     if (waiting === undefined || typeof text !== 'string') {
@@ -65,7 +68,10 @@ export class Host {
     }
   }
 
-  /** @param {Lost} lost */
+  /**
+   * Rejects all lines that wait, and calls those who wait for the loss.
+   * @param {Lost} lost
+   */
   #end(lost) {
     if (this.#lost !== null) {
       return;
@@ -163,7 +169,11 @@ class Search {
     this.how = how;
   }
 
-  /** @param {number} number @param {number} seat */
+  /**
+   * Connects to a host and asks for a seat. The fault is 0 if the seat is taken for this page.
+   * @param {number} number
+   * @param {number} seat
+   */
   async ask(number, seat) {
     const { urlOf, WebSocketClass } = this.how;
     const host = await Host.open(urlOf(number), WebSocketClass);
@@ -177,7 +187,10 @@ class Search {
     return { host, fault };
   }
 
-  /** @type {(host: Host, number: number, seat: number) => Promise<Seat|null>} */
+  /**
+   * The seat, if its machine accepts the journal. Otherwise closes the connection and returns null.
+   * @type {(host: Host, number: number, seat: number) => Promise<Seat|null>}
+   */
   async settle(host, number, seat) {
     if (await this.how.accepts(host)) {
       return { host, number, seat, missed: this.missed };
@@ -187,7 +200,10 @@ class Search {
     return null;
   }
 
-  /** @param {number} number */
+  /**
+   * Tries the preferred seats of a host, and then its seats from 1 on, until one is free.
+   * @param {number} number
+   */
   async at(number) {
     const wanted = this.how.preferred.filter(at => at.host === number).map(at => at.seat);
     let fault = 0;

@@ -76,6 +76,7 @@ export class Journal {
     }
   }
 
+  /** Forgets all commands and both states. */
   #blank() {
     this.loadLine = null;
     this.first = null;
@@ -94,7 +95,10 @@ export class Journal {
     return this.#storage.name;
   }
 
-  /** @type {(asked: Asked, reply: string|null, isZero: boolean) => void} */
+  /**
+   * Adds a command that the storage has, with its reply.
+   * @type {(asked: Asked, reply: string|null, isZero: boolean) => void}
+   */
   #read(asked, reply, isZero) {
     const entry = this.#add(asked, isZero);
     if (reply !== null) {
@@ -103,12 +107,18 @@ export class Journal {
     }
   }
 
-  /** @type {(asked: Asked, isZero: boolean) => Noted} */
+  /**
+   * Adds a command under the next number, without a reply.
+   * @type {(asked: Asked, isZero: boolean) => Noted}
+   */
   #add({ command, line }, isZero) {
     return this.#put({ number: ++this.#noted, command, line, reply: null, isZero, slot: 0 });
   }
 
-  /** @param {Noted} entry */
+  /**
+   * Puts a command into the last slot, or into a new one if that is full.
+   * @param {Noted} entry
+   */
   #put(entry) {
     const { command, line } = entry;
     const letters = this.#letters[this.#letters.length - 1];
@@ -168,7 +178,10 @@ export class Journal {
     }
   }
 
-  /** @param {Noted} entry */
+  /**
+   * Counts the steps of a command that has a reply.
+   * @param {Noted} entry
+   */
   #counted({ command, isZero }) {
     if (isZero || ZEROING.includes(command.do)) {
       this.count = 0;
@@ -178,7 +191,10 @@ export class Journal {
     }
   }
 
-  /** @param {Noted} entry */
+  /**
+   * Removes a command from its slot and from the sums.
+   * @param {Noted} entry
+   */
   #remove(entry) {
     this.entries.splice(this.entries.indexOf(entry), 1);
     const slot = this.#slots[entry.slot];
@@ -209,11 +225,16 @@ export class Journal {
     }
   }
 
-  /** @param {number} slot @returns {import('./storage.js').Row[]} */
+  /**
+   * The commands of a slot as the storage keeps them.
+   * @param {number} slot
+   * @returns {import('./storage.js').Row[]}
+   */
   #rows(slot) {
     return this.#slots[slot].map(({ line, reply, isZero }) => [line, reply, isZero ? 1 : 0]);
   }
 
+  /** Writes the slots that changed. If another page took the name, writes all under a new one. */
   #flush() {
     if (!this.isKept) {
       return;
@@ -229,6 +250,7 @@ export class Journal {
     this.#dirty.clear();
   }
 
+  /** Writes the whole journal as a new generation. */
   #replace() {
     const { loadLine, first } = this;
     const slots = this.#slots.map((_, slot) => this.#rows(slot));

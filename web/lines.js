@@ -55,7 +55,11 @@ export function commandOf(line) {
   return command;
 }
 
-/** @param {string} line @returns {Command} */
+/**
+ * The JSON value of a line as an object, empty if the line is no JSON.
+ * @param {string} line
+ * @returns {Command}
+ */
 function parsed(line) {
   try {
     return Object(JSON.parse(line));

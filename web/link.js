@@ -37,7 +37,10 @@ const SAVE = lineOf(save());
  * @property {() => void} answered after each command that has its reply
  */
 
-/** @type {(seat: import('./host.js').Seat, hosts: number, preferred: At[]) => string} */
+/**
+ * Says which seat the page has, and why it has not the one that was asked for.
+ * @type {(seat: import('./host.js').Seat, hosts: number, preferred: At[]) => string}
+ */
 function sentenceOfSeat({ number, seat, missed }, hosts, preferred) {
   if (number === 0) {
     return 'This page has a machine of its own.';
@@ -55,7 +58,10 @@ const UNSEATED = Object.freeze({
   tooLarge: 'Your machine is larger than the hosts allow. The page keeps it and tries again.',
 });
 
-/** @param {string} reason */
+/**
+ * Says that the connection is lost, and why.
+ * @param {string} reason
+ */
 const sentenceOfLoss = reason =>
   `The connection is lost${reason === '' ? '' : `: ${reason}`}. ${UNSEATED.lost}`;
 
@@ -119,7 +125,10 @@ export class Link {
     return this.#isSaving;
   }
 
-  /** @param {Pending} asked */
+  /**
+   * Queues a line, and sends it if there is a connection.
+   * @param {Pending} asked
+   */
   #push(asked) {
     this.#pending.push(asked);
     if (this.#host !== null) {
@@ -127,12 +136,19 @@ export class Link {
     }
   }
 
-  /** @param {Pending} asked */
+  /**
+   * Sends a line, and waits for its reply.
+   * @param {Pending} asked
+   */
   #send(asked) {
     this.#host?.send(asked.line, text => this.#answered(asked, text));
   }
 
-  /** @param {Pending} asked @param {string} text */
+  /**
+   * Notes a reply in the journal, and passes it on to whoever asked.
+   * @param {Pending} asked
+   * @param {string} text
+   */
   #answered(asked, text) {
     this.#pending.shift();
     if (asked.entry !== null) {
@@ -177,13 +193,18 @@ export class Link {
     this.#host?.close();
   }
 
-  /** @param {State} state @param {string} text */
+  /**
+   * Tells the listener a new state, unless the link was stopped.
+   * @param {State} state
+   * @param {string} text
+   */
   #tell(state, text) {
     if (!this.#isStopped) {
       this.#listener.state(state, text);
     }
   }
 
+  /** The seats to try first: the one that the page had, then the one that its address asks for. */
   #preferred() {
     const { seat } = this.#how;
     const wanted = seat === null ? [] : [{ host: 1, seat }];
@@ -246,7 +267,11 @@ export class Link {
     return true;
   }
 
-  /** @param {Noted} entry @param {string} reply */
+  /**
+   * Reports a replayed command whose reply differs. Notes the reply if there was none.
+   * @param {Noted} entry
+   * @param {string} reply
+   */
   #compare(entry, reply) {
     if (entry.reply === null) {
       this.#journal.answer(entry, reply);

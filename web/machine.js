@@ -15,7 +15,10 @@ const MOST_LETTERS = 262144;
 // Cells that all steps since a save may have together, so that playing them again takes seconds.
 const MOST_WORK = 2 ** 30;
 
-/** @type {(milliseconds: number) => Promise<void>} */
+/**
+ * Waits.
+ * @type {(milliseconds: number) => Promise<void>}
+ */
 const pause = milliseconds => new Promise(resolve => setTimeout(resolve, milliseconds));
 
 /** A text that is no machine and no list of commands. */
@@ -190,6 +193,7 @@ export class Machine extends EventTarget {
   }
 
   /**
+   * Sends an event to those who listen to it.
    * @template {keyof Events} K
    * @param {K} type
    * @param {Events[K]} [detail]
@@ -198,13 +202,18 @@ export class Machine extends EventTarget {
     this.dispatchEvent(new CustomEvent(type, { detail }));
   }
 
-  /** @param {State} state @param {string} text */
+  /**
+   * Keeps the state of the connection, and emits it.
+   * @param {State} state
+   * @param {string} text
+   */
   #stateIs(state, text) {
     this.state = state;
     this.text = text;
     this.#emit('state', { state, text });
   }
 
+  /** Emits whether the journal is kept, if that has changed. */
   #answered() {
     if (this.#journal.isKept !== this.#wasKept) {
       this.#wasKept = this.#journal.isKept;
@@ -212,7 +221,10 @@ export class Machine extends EventTarget {
     }
   }
 
-  /** @param {string} reply to `save` */
+  /**
+   * Takes planes, rules, cycle, colours and position from a saved machine, and emits them.
+   * @param {string} reply to `save`
+   */
   #learn(reply) {
     const machine = lines.machineIn(reply);
     this.planes = new Planes(machine.side);
@@ -230,21 +242,30 @@ export class Machine extends EventTarget {
 
   // Asking.
 
-  /** @param {lines.Command} command */
+  /**
+   * Does a command. Rejects with `Fault` if it is refused.
+   * @param {lines.Command} command
+   */
   async #ask(command) {
     return lines.doneOf(await this.#link.askAll([command])[0]);
   }
 
-  /** @param {lines.Command[]} all @param {How} [how] */
+  /**
+   * Does commands in one go. Resolves with their answers, whether refused or not.
+   * @param {lines.Command[]} all
+   * @param {How} [how]
+   */
   async #askAll(all, how) {
     const replies = await Promise.all(this.#link.askAll(all, how));
     return replies.map(lines.answerOf);
   }
 
+  /** Saves the machine, and takes all that it shows from there. */
   async #refresh() {
     this.#learn(await this.#link.checkpoint());
   }
 
+  /** Begins a checkpoint if a replay of the journal would take too long. */
   #keepShort() {
     const { entries, size, steps } = this.#journal;
     const isLong = entries.length > MOST_ENTRIES || size > MOST_LETTERS || steps > this.#piece();
@@ -253,6 +274,7 @@ export class Machine extends EventTarget {
     }
   }
 
+  /** Begins a checkpoint if the first state has no load line yet. */
   #keepFirst() {
     if (this.count === 0 && this.firstLine === null && !this.#link.isSaving) {
       this.#link.checkpoint();
@@ -264,7 +286,10 @@ export class Machine extends EventTarget {
     return Math.min(65535, MOST_WORK / this.side ** 2);
   }
 
-  /** @param {number} n steps; below 0 they are undone */
+  /**
+   * Commands that do or undo so many steps together.
+   * @param {number} n steps; below 0 they are undone
+   */
   #pieces(n) {
     const most = this.#piece();
     const steps = n < 0 ? lines.back : lines.run;
@@ -298,7 +323,10 @@ export class Machine extends EventTarget {
     throwFirst(done);
   }
 
-  /** @param {number} n steps; below 0 they are undone */
+  /**
+   * Does or undoes steps, piece by piece, until it is halted.
+   * @param {number} n steps; below 0 they are undone
+   */
   async #steps(n) {
     this.#isHalted = false;
     const pieces = this.#pieces(n);
@@ -375,6 +403,7 @@ export class Machine extends EventTarget {
     await this.#refresh();
   }
 
+  /** The refusal of a step back, or null if steps can be undone. */
   async #faultOfBack() {
     const [answer] = await this.#askAll([lines.back(0)]);
     return 'fault' in answer ? answer : null;
@@ -458,7 +487,11 @@ export class Machine extends EventTarget {
     return this.#queue.command(() => this.#changed(all, how));
   }
 
-  /** @param {lines.Command[]} all @param {How} [how] */
+  /**
+   * Does commands that change the machine, and takes what it shows after them.
+   * @param {lines.Command[]} all
+   * @param {How} [how]
+   */
   async #changed(all, how) {
     const asked = this.#askAll(all, how);
     const refreshed = this.#refresh();

@@ -47,6 +47,7 @@ export class PatternFault extends Error {
  */
 
 /**
+ * The size and the rule of a header line. Throws a `PatternFault`.
  * @param {string} line
  * @param {number} number
  * @returns {Header}
@@ -60,13 +61,19 @@ function headerOf(line, number) {
   return { width: Number(match[1]), height: Number(match[2]), ...rule === null ? {} : { rule: rule[1] } };
 }
 
-/** @param {string} remark */
+/**
+ * The upper left corner that a remark gives, or nothing.
+ * @param {string} remark
+ */
 function cornerOf(remark) {
   const match = /^#CXRLE .*?Pos=(-?\d+),(-?\d+)/.exec(remark) ?? /^#[PR] (-?\d+) (-?\d+)/.exec(remark);
   return match === null ? {} : { x: Number(match[1]), y: Number(match[2]) };
 }
 
-/** @param {string} sign */
+/**
+ * The state of a sign, or -1 if it has none.
+ * @param {string} sign
+ */
 function stateOf(sign) {
   return sign === 'b' || sign === '.' ? 0 : sign === 'o' ? 1
     : sign >= 'A' && sign <= 'X' ? sign.charCodeAt(0) - 64 : -1;
@@ -90,7 +97,11 @@ class Body {
     return this.rows[this.rows.length - 1];
   }
 
-  /** @param {string} sign @param {Fail} fail */
+  /**
+   * Reads a sign of the cells: a digit of a count, a state, the end of a row, or of all.
+   * @param {string} sign
+   * @param {Fail} fail
+   */
   sign(sign, fail) {
     if (sign >= '0' && sign <= '9') {
       this.count = 10 * (this.count ?? 0) + Number(sign);
@@ -109,7 +120,11 @@ class Body {
     return this.putCells(stateOf(sign), times, fail);
   }
 
-  /** @param {number} times @param {Fail} fail */
+  /**
+   * Begins so many new rows.
+   * @param {number} times
+   * @param {Fail} fail
+   */
   endRows(times, fail) {
     for (let i = 0; i < times; i++) {
       this.rows.push([]);
@@ -117,7 +132,12 @@ class Body {
     return this.rows.length - 1 > this.height && fail('tooHigh');
   }
 
-  /** @param {number} state @param {number} times @param {Fail} fail */
+  /**
+   * Puts so many cells of a state into the last row.
+   * @param {number} state
+   * @param {number} times
+   * @param {Fail} fail
+   */
   putCells(state, times, fail) {
     const { row } = this;
     return state < 0 && fail('unexpected')
@@ -128,7 +148,11 @@ class Body {
   }
 }
 
-/** @param {number[][]} rows @param {Header} header */
+/**
+ * The pattern of these rows, filled up with state 0.
+ * @param {number[][]} rows
+ * @param {Header} header
+ */
 function patternOf(rows, { width, height, ...rest }) {
   const cells = new Uint8Array(width * height);
   rows.forEach((row, y) => cells.set(row, y * width));
@@ -175,7 +199,11 @@ export function read(text, side = MOST_CELLS) {
   throw new PatternFault('noEnd', all.length, 1);
 }
 
-/** @param {Uint8Array} row @param {boolean} isTwoState */
+/**
+ * A row as runs of equal states, without the zeros at its end.
+ * @param {Uint8Array} row
+ * @param {boolean} isTwoState
+ */
 function runsOf(row, isTwoState) {
   /** @param {number} state */
   const letter = state => isTwoState ? 'bo'[state] : state === 0 ? '.' : String.fromCharCode(64 + state);
@@ -192,7 +220,10 @@ function runsOf(row, isTwoState) {
   return runs;
 }
 
-/** @type {(times: number, letter: string) => string} */
+/**
+ * A run of equal letters: its length, if above 1, and the letter.
+ * @type {(times: number, letter: string) => string}
+ */
 const counted = (times, letter) => times === 1 ? letter : `${times}${letter}`;
 
 /**

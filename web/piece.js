@@ -122,7 +122,10 @@ export class Piece {
     this.select(null);
   }
 
-  /** @param {Point} place */
+  /**
+   * Drags the selection to here, or its frame.
+   * @param {Point} place
+   */
   move(place) {
     if (!this.drag) {
       return;

@@ -178,7 +178,10 @@ export function place(planes, { width, cells }, [x, y], isClear = false) {
   });
 }
 
-/** @type {(width: number, height: number, stateAt: (x: number, y: number) => number) => Piece} */
+/**
+ * A piece of this size, with the state that the function gives for each cell.
+ * @type {(width: number, height: number, stateAt: (x: number, y: number) => number) => Piece}
+ */
 function made(width, height, stateAt) {
   const cells = Uint8Array.from({ length: width * height }, (_, i) => stateAt(i % width, Math.floor(i / width)));
   return { width, height, cells };

@@ -13,7 +13,10 @@ const MOST_KEPT = 8;
  * @typedef {{generation: number, first: string|null, count: number, when: number}} Head
  */
 
-/** @param {string} name */
+/**
+ * The key of a journal's head.
+ * @param {string} name
+ */
 const headOf = name => `cam6/${name}`;
 
 /**
@@ -35,10 +38,17 @@ export function nameOfTab(session, random = Math.random) {
   }
 }
 
-/** @param {() => number} random */
+/**
+ * A random name for a journal, or for its owner.
+ * @param {() => number} random
+ */
 const newName = random => Math.floor(random() * 2 ** 48).toString(36);
 
-/** @param {Store} storage @param {string} prefix */
+/**
+ * The keys of the storage that begin so.
+ * @param {Store} storage
+ * @param {string} prefix
+ */
 function keysOf(storage, prefix) {
   const keys = Array.from({ length: storage.length }, (_, i) => storage.key(i) ?? '');
   return keys.filter(key => key.startsWith(prefix));
@@ -52,7 +62,11 @@ function keysOf(storage, prefix) {
  */
 const headAt = (storage, key) => JSON.parse(storage.getItem(key) ?? 'null');
 
-/** @param {Store} storage @param {string} name */
+/**
+ * Removes a journal from the storage.
+ * @param {Store} storage
+ * @param {string} name
+ */
 function forget(storage, name) {
   storage.removeItem(headOf(name));
   keysOf(storage, `${headOf(name)}/`).forEach(key => storage.removeItem(key));
@@ -94,7 +108,10 @@ export class JournalStorage {
     this.name = name;
   }
 
-  /** @param {(string|number)[]} parts */
+  /**
+   * A key of this journal.
+   * @param {(string|number)[]} parts
+   */
   #key(...parts) {
     return [headOf(this.name), ...parts].join('/');
   }
@@ -123,7 +140,10 @@ export class JournalStorage {
     return content;
   }
 
-  /** @param {Store} storage */
+  /**
+   * The journal of the generation that its head names, or null if there is none.
+   * @param {Store} storage
+   */
   #content(storage) {
     const head = headAt(storage, this.#key());
     const loadLine = head && storage.getItem(this.#key(head.generation, 'save'));
@@ -184,7 +204,11 @@ export class JournalStorage {
     return true;
   }
 
-  /** @param {Store} storage @param {Content} content */
+  /**
+   * Writes a new generation, names it in the head, and removes the old one. If it throws, the old one stays.
+   * @param {Store} storage
+   * @param {Content} content
+   */
   #replaced(storage, { loadLine, first, count, slots }) {
     const generation = (this.#head?.generation ?? 0) + 1;
     const firstKey = first === null ? null

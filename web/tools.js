@@ -174,7 +174,10 @@ export class Tools {
     });
   }
 
-  /** @param {Point} place */
+  /**
+   * Goes on with the stroke to this cell.
+   * @param {Point} place
+   */
   move(place) {
     if (this.tool === 'select') {
       this.piece.move(place);

@@ -70,6 +70,7 @@ class Function:
 
 
 def functions_of(sources: dict[str, str]) -> Iterator[Function]:
+    """The functions of these sources."""
     for source, code in sources.items():
         for part in re.split(r"^(?=impl\b)", code, flags=re.M):
             owner = re.match(r"impl(?:<.*?>)? (?:.* for )?(\w+)", part)

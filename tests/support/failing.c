@@ -29,6 +29,7 @@ __attribute__((constructor)) static void begin(void) {
   error = by ? atoi(by) : 0;
 }
 
+// Whether this call is the one that has to fail.
 static int fails(const char *call) {
   if (strcmp(call, name) != 0 || atomic_fetch_add(&calls, 1) + 1 != due)
     return 0;
@@ -36,10 +37,12 @@ static int fails(const char *call) {
   return 1;
 }
 
+// The call of the system, or an error.
 ssize_t send(int file, const void *bytes, size_t size, int flags) {
   return fails("send") ? -1 : real_send(file, bytes, size, flags);
 }
 
+// The call of the system, or an error.
 ssize_t recv(int file, void *bytes, size_t size, int flags) {
   return fails("recv") ? -1 : real_recv(file, bytes, size, flags);
 }

@@ -18,6 +18,7 @@ __attribute__((constructor)) static void begin(void) {
   refused = number ? atol(number) : 0;
 }
 
+// Whether this request for memory has to fail. Counts it.
 static int is_refused(void) {
   if (!refused || atomic_fetch_add(&requests, 1) + 1 != refused)
     return 0;

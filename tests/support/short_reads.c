@@ -11,7 +11,8 @@ typedef ssize_t (*reading)(int, void *, size_t);
 static reading real_read;
 static long given;
 
-static void tell(void) {
+// Writes how many bytes were read so far to the file that READ_AT names.
+static void write_count(void) {
   const char *path = getenv("READ_AT");
   FILE *file = path ? fopen(path, "w") : NULL;
   if (file) {
@@ -20,6 +21,7 @@ static void tell(void) {
   }
 }
 
+// Reads one byte at most from the standard input.
 ssize_t read(int file, void *bytes, size_t size) {
   if (!real_read)
     real_read = (reading)dlsym(RTLD_NEXT, "read");
@@ -29,6 +31,6 @@ ssize_t read(int file, void *bytes, size_t size) {
   if (taken > 0)
     given += taken;
   else
-    tell();
+    write_count();
   return taken;
 }

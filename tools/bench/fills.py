@@ -30,6 +30,7 @@ def rule(start: str, unit: str) -> Callable[[int], str]:
     size = size_of(unit)
 
     def text_of(number: int) -> str:
+        """The text of this number."""
         return repeated(number, start, unit, size)
 
     return text_of
@@ -51,6 +52,7 @@ def downs(lines: Iterable[str], values: int = 1) -> str:
 
 
 def at_once(values: int = 1) -> str:
+    """For each line values more and then less, one line after another."""
     return " ".join(f"{ups([line], values)} {downs([line], values)}" for line in LINES)
 
 

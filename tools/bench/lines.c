@@ -17,17 +17,20 @@
 
 #define MOST 64
 
+// The time in seconds.
 static double now(void) {
   struct timespec t;
   clock_gettime(CLOCK_MONOTONIC, &t);
   return t.tv_sec + t.tv_nsec / 1e9;
 }
 
+// Prints the error of the system, and ends.
 static void failed(const char *what) {
   perror(what);
   exit(1);
 }
 
+// Sends all bytes.
 static void send_all(int fd, const char *bytes, size_t n) {
   while (n > 0) {
     ssize_t sent = write(fd, bytes, n);
@@ -38,6 +41,7 @@ static void send_all(int fd, const char *bytes, size_t n) {
 }
 
 /* How many lines end in what comes next. */
+// Reads once, and counts the lines that end there.
 static int lines_in(int fd) {
   static char bytes[1 << 16];
   ssize_t n = read(fd, bytes, sizeof bytes);

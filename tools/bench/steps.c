@@ -51,6 +51,7 @@ typedef struct { int half; Hood hood; Minor minor; int grid, phase; } Wiring;
 static const uint64_t EVEN_COLUMNS = 0xaaaaaaaaaaaaaaaaULL, ODD_COLUMNS = 0x5555555555555555ULL;
 
 static uint64_t seed = 1;
+// The next random word, by splitmix64.
 static uint64_t random_word(void) {
   uint64_t z = (seed += 0x9e3779b97f4a7c15ULL);
   z = (z ^ z >> 30) * 0xbf58476d1ce4e5b9ULL;
@@ -58,6 +59,7 @@ static uint64_t random_word(void) {
   return z ^ z >> 31;
 }
 
+// Fills all planes with random cells.
 static void fill(Planes *planes) {
   for (int q = 0; q < 4; q++) {
     for (int y = 0; y < SIDE; y++) {
@@ -66,6 +68,7 @@ static void fill(Planes *planes) {
   }
 }
 
+// The time in nanoseconds.
 static double now(void) {
   struct timespec t;
   clock_gettime(CLOCK_MONOTONIC, &t);
@@ -74,12 +77,14 @@ static double now(void) {
 
 // ---- Cell by cell
 
+// The bit of a cell, round the torus.
 static unsigned cell(const Planes *planes, int plane, int x, int y) {
   x &= SIDE - 1;
   y &= SIDE - 1;
   return planes->rows[plane][y][x >> 6] >> (63 - (x & 63)) & 1;
 }
 
+// The address of a cell: the twelve bits that it sees, looked up one by one.
 static unsigned address_at(const Planes *planes, const Wiring *wiring, int x, int y) {
   int lower = wiring->half * 2, upper = lower + 1, other = 2 - lower;
   int horz = (x + wiring->grid) & 1, vert = (y + wiring->grid) & 1;
@@ -116,6 +121,7 @@ static unsigned address_at(const Planes *planes, const Wiring *wiring, int x, in
   return address;
 }
 
+// A step, a look-up for each cell.
 static void step_naive(const Planes *old, Planes *new, const Wiring *wiring, const uint8_t *table) {
   int lower = wiring->half * 2;
   for (int y = 0; y < SIDE; y++) {
@@ -139,6 +145,7 @@ static inline void from_west(Row to, const uint64_t *row) {
   for (int w = 0; w < WORDS; w++) to[w] = row[w] >> 1 | row[(w + WORDS - 1) % WORDS] << 63;
 }
 
+// A row moved by a column: each cell takes the bit of the cell to its east, round the torus.
 static inline void from_east(Row to, const uint64_t *row) {
   for (int w = 0; w < WORDS; w++) to[w] = row[w] << 1 | row[(w + 1) % WORDS] >> 63;
 }
@@ -151,10 +158,12 @@ static inline void exchanged(Row to, const uint64_t *row, uint64_t left) {
   for (int w = 0; w < WORDS; w++) to[w] = (east[w] & left) | (west[w] & ~left);
 }
 
+// A row of equal words.
 static inline void filled(Row to, uint64_t word) {
   for (int w = 0; w < WORDS; w++) to[w] = word;
 }
 
+// The columns on the left of a block.
 static uint64_t left_columns(const Wiring *wiring) { return wiring->grid ? ODD_COLUMNS : EVEN_COLUMNS; }
 
 // All ones if the bit is set.
@@ -181,14 +190,17 @@ static uint64_t line_without_cells(int is_phase, int is_place, const Wiring *wir
   return bit ? spread(y + wiring->grid, 0) : ~left_columns(wiring);
 }
 
+// What line 8 or 9 shows in a row, if a neighbourhood of blocks has it without cells.
 static uint64_t hood_line(const Wiring *wiring, int bit, int y) {
   return line_without_cells(wiring->hood == MARG_PH, wiring->hood == MARG_HV, wiring, bit, y);
 }
 
+// What line 10 or 11 shows in a row, if the minor assignment has it without cells.
 static uint64_t minor_line(const Wiring *wiring, int bit, int y) {
   return line_without_cells(wiring->minor == PHASES, wiring->minor == HV, wiring, bit, y);
 }
 
+// The twelve address lines of a row, in the order of their bits.
 static void lines_of_row(const Planes *planes, const Wiring *wiring, int y, Row lines[LINES]) {
   int lower = wiring->half * 2, other = 2 - lower;
   int north = (y + SIDE - 1) & (SIDE - 1), south = (y + 1) & (SIDE - 1);
@@ -241,6 +253,7 @@ static inline uint64_t transposed(uint64_t x) {
   return x ^ t ^ t << 28;
 }
 
+// A step that transposes the lines of eight cells into addresses, and looks these up.
 static void step_transpose(const Planes *old, Planes *new, const Wiring *wiring, const uint8_t *table) {
   int lower = wiring->half * 2;
   Row lines[LINES];
@@ -284,6 +297,7 @@ typedef struct {
   int roots[2];
 } Diagram;
 
+// An edge to the node of this line and these two edges, which is made if it is not there yet.
 static int edge_to(Diagram *diagram, int line, int zero, int one) {
   if (zero == one) return zero;
   int turned = one & 1;
@@ -406,6 +420,7 @@ static int instruction_of(const Node *node, int at, Instruction *in) {
   return 1;
 }
 
+// Writes the instructions of a diagram, in an order that reuses slots.
 static void make_program(const Diagram *diagram, Program *program) {
   static int order[MOST_NODES], uses[MOST_NODES], slot_of[MOST_NODES], spare[MOST_NODES];
   int spares = 0, count = nodes_in_order(diagram, order, uses);
@@ -452,6 +467,7 @@ static void fold(const uint8_t *table, const Wiring *wiring, uint8_t *folded) {
 static Diagram diagram;
 static Program program;
 
+// Makes the diagram and the program of a table by an order of lines, and returns their cost.
 static int cost_in(const uint8_t *table, const int order[LINES]) {
   make_diagram(&diagram, table, order);
   make_program(&diagram, &program);
@@ -496,6 +512,7 @@ typedef uint64_t Four __attribute__((vector_size(32), aligned(8), may_alias));
 enum { FOURS = BAND_WORDS / 4 };
 static uint64_t slots[MOST_SLOTS][BAND_WORDS] __attribute__((aligned(64)));
 
+// Copies the last row before the first one, and the first one after the last.
 static void pad_ends(Padded *plane) {
   memcpy(plane->rows[0], plane->rows[SIDE], ROW_BYTES);
   memcpy(plane->rows[SIDE + 1], plane->rows[1], ROW_BYTES);
@@ -524,6 +541,7 @@ static void moore_lines(const Row *plane, int read, const uint64_t *lines[LINES]
   }
 }
 
+// Of one plane the rows to the north, south, west and east.
 static void vonn_lines(const Row *plane, Padded *three, int read, const uint64_t **lines) {
   if (read & 0x0c) {
     memcpy(three[0].rows[1], plane, PLANE_BYTES);
@@ -537,6 +555,7 @@ static void vonn_lines(const Row *plane, Padded *three, int read, const uint64_t
   lines[5] = three[2].rows[1];
 }
 
+// Of one plane what CW, CCW and OPP show.
 static void block_lines(const Row *plane, const Wiring *wiring, Padded *three, int read, const uint64_t **lines) {
   for (int i = 0; i < 3; i++) lines[2 + i] = three[i].rows[1];
   for (int y = 0; y < SIDE && read & 0x1c; y++) {
@@ -572,6 +591,7 @@ static void lines_of_planes(const Planes *planes, const Wiring *wiring, int read
   }
 }
 
+// Where a value is: in a line, or in a slot.
 static inline const Four *value_at(const uint64_t *const lines[LINES], int value, int first) {
   return (const Four *)(value < LINES ? lines[value] + first : slots[value - LINES]);
 }
@@ -597,6 +617,7 @@ static inline void do_band(const Program *done, const uint64_t *const lines[LINE
   }
 }
 
+// A step by the instructions of a program, band by band.
 static void step_bdd(const Planes *old, Planes *new, const Wiring *wiring, const Program *done) {
   const uint64_t *lines[LINES];
   lines_of_planes(old, wiring, done->lines, lines);
@@ -651,7 +672,9 @@ static void step_life(const Planes *old, Planes *new) {
 
 // ---- Tables
 
+// The bit of a line in an address.
 static unsigned bit(unsigned address, int line) { return address >> line & 1; }
+// How many of the eight neighbours are set.
 static unsigned around(unsigned address) { return __builtin_popcount(address >> 2 & 255); }
 // Of the four cells of a block.
 static unsigned in_block(unsigned address) { return __builtin_popcount(address & 0x1d); }
@@ -666,10 +689,12 @@ static unsigned billiard_balls(unsigned a) {
   unsigned lower = balls == 1 ? opposite : balls == 2 && center == opposite ? bit(a, 2) : center;
   return lower | (a & 2);
 }
+// Inverts a block unless two of its cells are set, and rotates one of three by half a turn.
 static unsigned critters(unsigned a) {
   unsigned lower = in_block(a) == 2 ? bit(a, 0) : in_block(a) == 3 ? !bit(a, 4) : !bit(a, 0);
   return lower | (a & 2);
 }
+// Undoes `critters`.
 static unsigned critters_undone(unsigned a) {
   unsigned lower = in_block(a) == 2 ? bit(a, 0) : in_block(a) == 1 ? !bit(a, 4) : !bit(a, 0);
   return lower | (a & 2);
@@ -702,6 +727,7 @@ enum { COUNT = sizeof TABLES / sizeof TABLES[0] };
 static uint8_t entries[ENTRIES], folded[ENTRIES];
 static Planes first, second, third;
 
+// Fills `entries` with the table, by its formula or at random.
 static void fill_entries(const Table *table) {
   seed = table->seed;
   for (unsigned a = 0; a < ENTRIES; a++) entries[a] = table->formula ? table->formula(a) : random_word() >> 62;
@@ -714,6 +740,7 @@ static void fill_order(const Table *table, int order[LINES]) {
   sift(folded, order);
 }
 
+// Makes the program of `entries` for a wiring.
 static void fill_program(const Wiring *wiring, const int order[LINES]) {
   fold(entries, wiring, folded);
   cost_in(folded, order);
@@ -721,6 +748,7 @@ static void fill_program(const Wiring *wiring, const int order[LINES]) {
 
 // ---- Checks
 
+// Ends with a message if two results differ.
 static void same(const Planes *came, const Planes *wanted, const Table *table, const char *what) {
   if (memcmp(came, wanted, sizeof *came)) {
     printf("%s by %s is not what it is cell by cell\n", table->name, what);
@@ -728,6 +756,7 @@ static void same(const Planes *came, const Planes *wanted, const Table *table, c
   }
 }
 
+// Compares all methods with the naive one at one wiring.
 static void check_wiring(const Table *table, const Wiring *wiring, const int order[LINES]) {
   fill_program(wiring, order);
   second = first;
@@ -752,6 +781,7 @@ static void check_wiring(const Table *table, const Wiring *wiring, const int ord
   }
 }
 
+// Compares all methods at each half, grid and phase, from several random states.
 static void check(const Table *table) {
   int order[LINES];
   fill_entries(table);
@@ -797,6 +827,7 @@ static void do_steps(Method method, const Wiring *wiring, int count) {
   }
 }
 
+// The nanoseconds that a method takes for `2 * count` steps.
 static double took(Method method, const Wiring *wiring, int count) {
   double start = now();
   do_steps(method, wiring, count);
@@ -815,6 +846,7 @@ static double least_time(Method method, const Wiring *wiring) {
   return least;
 }
 
+// Prints the least time of a step by a method, in nanoseconds.
 static void print_time(const Table *table, Method method) {
   int order[LINES];
   if (method == HAND && table->formula != life) return;

@@ -28,6 +28,7 @@ static void from_west(uint64_t to[WORDS], const uint64_t row[WORDS]) {
   }
 }
 
+// The same from the east.
 static void from_east(uint64_t to[WORDS], const uint64_t row[WORDS]) {
   for (int w = 0; w < WORDS; w++) {
     to[w] = row[w] << 1 | row[(w + 1) % WORDS] >> 63;
@@ -67,6 +68,7 @@ static inline uint64_t gathered(uint64_t bytes) {
   return (bytes & 0x0101010101010101ULL) * 0x0102040810204080ULL >> 56;
 }
 
+// A step of half A, by transposes.
 static void step(Plane *from, Plane *to) {
   uint64_t lines[LINES][WORDS];
   for (int y = 0; y < SIDE; y++) {
@@ -96,6 +98,7 @@ static void step(Plane *from, Plane *to) {
   memcpy(to[2], from[2], 2 * sizeof(Plane));
 }
 
+// The bit of a cell, round the torus.
 static int bit(Plane plane, int x, int y) {
   x = (x + SIDE) % SIDE;
   y = (y + SIDE) % SIDE;
@@ -126,27 +129,30 @@ static void plain_step(Plane *from, Plane *to) {
   }
 }
 
-static uint64_t number_without_a_pattern(void) {
+// A random word.
+static uint64_t random_word(void) {
   static uint64_t state = 88172645463325252ULL;
   state ^= state << 13;
   state ^= state >> 7;
   return state ^= state << 17;
 }
 
-static void fill_without_a_pattern(Plane *to) {
+// Fills four planes with random cells.
+static void fill_random(Plane *to) {
   for (int p = 0; p < 4; p++) {
     for (int y = 0; y < SIDE; y++) {
       for (int w = 0; w < WORDS; w++) {
-        to[p][y][w] = number_without_a_pattern();
+        to[p][y][w] = random_word();
       }
     }
   }
 }
 
+// Fills the table: parity, or random entries.
 static void fill_table(int is_parity) {
   for (int address = 0; address < ENTRIES; address++) {
     int parity = __builtin_popcount(address & 61) & 1;
-    int other = number_without_a_pattern() >> 40 & 3;
+    int other = random_word() >> 40 & 3;
     table[address] = is_parity ? parity | (address & 2) : other;
   }
 }
@@ -162,7 +168,7 @@ int main(void) {
   static Plane wanted[2][4];
   for (int is_parity = 1; is_parity >= 0; is_parity--) {
     fill_table(is_parity);
-    fill_without_a_pattern(planes[0]);
+    fill_random(planes[0]);
     memcpy(wanted[0], planes[0], sizeof wanted[0]);
     for (int i = 0; i < 8; i++) {
       step(planes[i % 2], planes[(i + 1) % 2]);

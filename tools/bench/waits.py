@@ -27,17 +27,20 @@ BACK = b'{"do":"back","n":1}\n'
 
 
 def rule_line(name: str, half: str, hood: str, minor: str, text: str) -> bytes:
+    """The line that defines a rule."""
     return (
         f'{{"do":"rule","name":"{name}","half":"{half}","hood":"{hood}","minor":"{minor}","text":"{text}"}}\n'
     ).encode()
 
 
 def cycle_line(entries: list[tuple[str, str]]) -> bytes:
+    """The line that sets a cycle on the even grid."""
     listed = ",".join(f'{{"a":"{a}","b":"{b}","grid":"EVEN","phase":0}}' for a, b in entries)
     return f'{{"do":"cycle","entries":[{listed}]}}\n'.encode()
 
 
 def parity_lines() -> list[bytes]:
+    """The lines that make a machine run parity."""
     return [rule_line("P", "A", "N/VONN", "&/CENTERS", PARITY), cycle_line([("P", "-")])]
 
 
@@ -86,16 +89,19 @@ class Alone:
         self.process = subprocess.Popen([program, "alone"], stdin=pipe, stdout=pipe, bufsize=0)
 
     def ask(self, line: bytes) -> bytes:
+        """Sends a line, and returns the reply."""
         assert self.process.stdin and self.process.stdout
         self.process.stdin.write(line)
         return read_line(self.process.stdout.fileno())
 
     def end(self) -> None:
+        """Kills the program."""
         self.process.kill()
         self.process.communicate()
 
 
 def read_line(descriptor: int) -> bytes:
+    """Reads up to an LF."""
     line = b""
     while not line.endswith(b"\n"):
         line += os.read(descriptor, 1 << 16)
@@ -115,9 +121,11 @@ class Host:
         self.process.stderr.readline()
 
     def user(self, number: int) -> User:
+        """Connects a user to a seat."""
         return User(self.port, number)
 
     def end(self) -> None:
+        """Kills the host."""
         self.process.kill()
         self.process.communicate()
 
@@ -129,11 +137,13 @@ class User:
         self.ask(b'{"seat":%d}\n' % number)
 
     def ask(self, line: bytes) -> bytes:
+        """Sends a line, and returns the reply."""
         self.peer.sendall(line)
         return read_line(self.peer.fileno())
 
 
 def prepare(asked: Alone | User, lines: list[bytes]) -> None:
+    """Sends lines, and ends if one of them is refused."""
     for line in lines:
         reply = asked.ask(line)
         if b'"ok"' not in reply:
@@ -163,6 +173,7 @@ def waits_for(asked: Alone | User, seconds: float) -> list[float]:
 
 
 def tell(what: str, found: list[float]) -> float:
+    """Prints a row of the table: median, 99th percentile and longest. Returns the median."""
     median, late = found[len(found) // 2], found[min(len(found) - 1, len(found) * 99 // 100)]
     print(f"| {what} | {median:.0f} | {late:.0f} | {found[-1]:.0f} |", flush=True)
     return median
@@ -219,6 +230,7 @@ class Hostile:
         self.thread = threading.Thread(target=self.go_on)
 
     def go_on(self) -> None:
+        """Runs and undoes a step until it is over."""
         while not self.is_over.is_set():
             for line in [RUN, BACK]:
                 began = time.perf_counter()

@@ -78,6 +78,7 @@ class FakeSocket {
     setImmediate(() => this.open());
   }
 
+  /** Opens the socket, or closes it at once if the network or the host is down. */
   open() {
     const host = this.number === 0 ? this.net : this.net.hosts[this.number - 1];
     if (!this.net.isUp || !host.isUp) {
@@ -97,7 +98,10 @@ class FakeSocket {
     setImmediate(() => this.arrived(line));
   }
 
-  /** @param {string} line */
+  /**
+   * Takes a line that a page has sent.
+   * @param {string} line
+   */
   arrived(line) {
     if (!this.isOpen) {
       return;
@@ -123,7 +127,10 @@ class FakeSocket {
     });
   }
 
-  /** @param {string} line */
+  /**
+   * Answers the first line, which asks for a seat.
+   * @param {string} line
+   */
   sitDown(line) {
     const host = this.net.hosts[this.number - 1];
     const { seat } = JSON.parse(line);
@@ -139,12 +146,20 @@ class FakeSocket {
     return '{"ok":"seat"}';
   }
 
-  /** @param {number} code @param {string} reason */
+  /**
+   * Calls the page's handler of the end.
+   * @param {number} code
+   * @param {string} reason
+   */
   tellClosed(code, reason) {
     this.onclose?.(Object.assign(new Event('close'), { code, reason, wasClean: true }));
   }
 
-  /** @param {number} code @param {string} reason */
+  /**
+   * Closes the socket from the side of the host.
+   * @param {number} code
+   * @param {string} reason
+   */
   end(code, reason) {
     if (!this.isOpen) {
       return;

@@ -34,7 +34,10 @@ class HTMLInputElement extends HTMLElement {
 
 class HTMLCanvasElement extends HTMLElement {}
 
-/** @param {string} tag */
+/**
+ * A new element of a tag.
+ * @param {string} tag
+ */
 const made = tag => tag === 'input' ? new HTMLInputElement() : tag === 'canvas' ? new HTMLCanvasElement() : new HTMLElement();
 
 class FakeDocument extends EventTarget {

@@ -8,13 +8,19 @@ import { PALETTE } from '../palette.js';
 import { randomFrom } from '../shapes.js';
 import { readPng } from './png_reader.mjs';
 
-/** @type {(count: number, seed: number) => Uint8Array} */
+/**
+ * Random pixels.
+ * @type {(count: number, seed: number) => Uint8Array}
+ */
 const noise = (count, seed) => {
   const next = randomFrom(seed);
   return Uint8Array.from({ length: count }, () => Math.floor(16 * next()));
 };
 
-/** @type {(pixels: Uint8Array, width: number, scale?: number) => number[][]} */
+/**
+ * The rows of pixels, each pixel enlarged.
+ * @type {(pixels: Uint8Array, width: number, scale?: number) => number[][]}
+ */
 const rowsOf = (pixels, width, scale = 1) => {
   const height = pixels.length / width;
   return Array.from({ length: height * scale }, (_, y) => Array.from({ length: width * scale }, (_, x) =>

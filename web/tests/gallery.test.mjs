@@ -7,7 +7,10 @@ import { GALLERY } from '../gallery.js';
 import { lineOf } from '../lines.js';
 import { inRepository, urlOf } from './repository.mjs';
 
-/** @param {import('../lines.js').Command[]} commands */
+/**
+ * The lines of commands as one text.
+ * @param {import('../lines.js').Command[]} commands
+ */
 const textOf = commands => commands.map(command => `${lineOf(command)}\n`).join('');
 
 test('each entry has the lines of its example, byte for byte', () => {

@@ -6,6 +6,7 @@ import { Host, Lost, NoSeat, sitDown } from '../host.js';
 import { Queue } from '../queue.js';
 import { FakeNet } from './fake_net.mjs';
 
+/** Resolves after what is due now. */
 const later = () => new Promise(setImmediate);
 
 test('replies come to the lines in order, several under way', async () => {

@@ -13,17 +13,30 @@ import { FakeStorage } from './fake_storage.mjs';
 
 const OK = '{"ok":"run","position":0}';
 const SET = set(0, 1, '00');
-/** @param {number|string} sum */
+/**
+ * A load line of a machine of this sum.
+ * @param {number|string} sum
+ */
 const saved = sum => `{"do":"load","machine":{"sum":${sum}}}`;
-/** @param {(string|Command)[]} all */
+/**
+ * The lines of commands.
+ * @param {(string|Command)[]} all
+ */
 const textsOf = all => all.map(one => typeof one === 'string' ? one : lineOf(one));
-/** @type {(command: Command, letters: number) => Command} */
+/**
+ * A command whose line has so many letters.
+ * @type {(command: Command, letters: number) => Command}
+ */
 const padded = (command, letters) => commandOf(lineOf(command).padEnd(letters));
+/** A function that returns 0.001, 0.002 and so on. */
 const counting = () => {
   let next = 0;
   return () => (next += 0.001);
 };
-/** @type {(storage: Store|null, name?: string, more?: ConstructorParameters<typeof Journal>[2]) => Journal} */
+/**
+ * A journal with fixed random names and a fixed time.
+ * @type {(storage: Store|null, name?: string, more?: ConstructorParameters<typeof Journal>[2]) => Journal}
+ */
 const journalIn = (storage, name = 'page', more = {}) => new Journal(storage, name, { random: counting(), now: () => 5, ...more });
 
 /**

@@ -9,10 +9,16 @@ import { FakeNet } from './fake_net.mjs';
 import { FakeStorage } from './fake_storage.mjs';
 import { BALLS, ECHOES, PARITY, PlainMachine } from './plain_machine.mjs';
 
-/** @type {(name: string, work: () => Promise<void>) => void} */
+/**
+ * A test that may take two minutes.
+ * @type {(name: string, work: () => Promise<void>) => void}
+ */
 const test = (name, work) => plainTest(name, { timeout: 120000 }, work);
 
-/** @type {(name: string) => import('../lines.js').Entry[]} */
+/**
+ * A cycle of one rule of half A on the even grid and the odd one.
+ * @type {(name: string) => import('../lines.js').Entry[]}
+ */
 const EVEN_ODD = name => [
   { a: name, b: '-', grid: 'EVEN', phase: 0 },
   { a: name, b: '-', grid: 'ODD', phase: 0 },
@@ -28,16 +34,25 @@ const ECHO_COMMANDS = [
 ];
 const ECHO_LINES = ECHO_COMMANDS.map(lineOf);
 
-/** @type {(net: FakeNet, more?: Partial<import('../machine.js').Setting>) => Machine} */
+/**
+ * A machine that connects over a fake network, without waits.
+ * @type {(net: FakeNet, more?: Partial<import('../machine.js').Setting>) => Machine}
+ */
 const machineOf = (net, more = {}) => new Machine({
   urlOf: number => net.urlOf(number), hosts: net.hosts.length, WebSocketClass: net.WebSocket, wait: async () => {}, ...more,
 });
 
-/** @param {Machine} machine */
+/**
+ * The rows of the four planes that the page has.
+ * @param {Machine} machine
+ */
 const rowsOf = machine => [0, 1, 2, 3].map(plane =>
   Array.from({ length: machine.side }, (_, y) => machine.planes.rowOf(plane, y)));
 
-/** @param {PlainMachine} plain */
+/**
+ * The machine that the oracle saves.
+ * @param {PlainMachine} plain
+ */
 const savedBy = plain => machineIn(plain.respond('{"do":"save"}'));
 
 /**
@@ -88,7 +103,10 @@ async function session(machine) {
   await machine.frame(-1);
 }
 
-/** @param {() => FakeNet} netOf */
+/**
+ * A session over a network that never breaks, as the one to compare with.
+ * @param {() => FakeNet} netOf
+ */
 async function unbroken(netOf) {
   const net = netOf();
   const machine = machineOf(net);
@@ -101,7 +119,9 @@ async function unbroken(netOf) {
 
 /** @type {('before'|'after')[]} */
 const WHEN = ['before', 'after'];
+/** A network with a machine for each page. */
 const privateNet = () => new FakeNet();
+/** A network with a host. */
 const hostNet = () => {
   const net = new FakeNet({ hosts: [{ seats: 2 }] });
   net.hosts[0].machines[0].respond(lineOf(set(2, 9, 'f'.repeat(64))));

@@ -3,7 +3,10 @@
 import assert from 'node:assert/strict';
 import { inflateSync } from 'node:zlib';
 
-/** @param {Uint8Array} bytes */
+/**
+ * The CRC-32 of bytes, bit by bit.
+ * @param {Uint8Array} bytes
+ */
 function crcOf(bytes) {
   let crc = 0xffffffff;
   for (const byte of bytes) {
@@ -15,7 +18,10 @@ function crcOf(bytes) {
   return (crc ^ 0xffffffff) >>> 0;
 }
 
-/** @param {Uint8Array} file */
+/**
+ * The chunks of a PNG file. Fails if a CRC is wrong.
+ * @param {Uint8Array} file
+ */
 function chunksOf(file) {
   const bytes = Buffer.from(file);
   assert.equal(bytes.subarray(0, 8).toString('latin1'), '\x89PNG\r\n\x1a\n');

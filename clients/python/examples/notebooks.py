@@ -39,6 +39,7 @@ def cells_of(script: str) -> List[Tuple[str, str]]:
 
 
 def lines_of(text: str) -> List[str]:
+    """The lines of a text as a notebook keeps them: each but the last with its LF."""
     return text.splitlines(keepends=True)
 
 

@@ -38,6 +38,7 @@ TURN, MIRROR = (2, 0, 3, 1), (1, 0, 3, 2)
 
 
 def moved(block: int, places: Sequence[int]) -> int:
+    """A block whose cells have moved: cell `k` has the state that `places[k]` had."""
     return sum((block >> places[bit] & 1) << bit for bit in BITS)
 
 
@@ -66,6 +67,7 @@ def seen(rule: Rule, view: list[int], is_undone: bool) -> Rule:
 
 
 def rule_of(singles: Sequence[int], pairs: Sequence[int], triples: Sequence[int]) -> Rule:
+    """The rule of a class: what it makes of blocks of one, two and three cells."""
     rule = list(range(16))
     for group, images in ((SINGLES, singles), (PAIRS, pairs), (TRIPLES, triples)):
         for block, image in zip(group, images):

@@ -93,6 +93,7 @@ def grid_of(bits: Any) -> Any:
 
 
 def _numpy_grid(module: Any, bits: Any) -> Any:
+    """An array of numpy as uint8. Raises ValueError or TypeError unless it is one of whole numbers by row and column."""
     if bits.ndim != 2:
         raise ValueError(f"cells have rows and columns, not {bits.ndim} dimensions")
     if bits.dtype == bool:
@@ -154,6 +155,7 @@ def digits_of(bits: Row, side: int) -> str:
 
 
 def _checked_digits(digits: str, side: int) -> str:
+    """The digits of a row in small letters. Raises ValueError if there are not as many as a row has."""
     if len(digits) * 4 != side:
         raise ValueError(f"bits has {side // 4} hexadecimal digits at side {side}, not {len(digits)}")
     if digits.strip(HEX):

@@ -120,12 +120,14 @@ class Channel:
         return replies
 
     def _guarded(self, act: Callable[..., Any], *args: Any) -> Any:
+        """Calls a function of the system. If it fails, ends the channel and raises `Lost`."""
         try:
             return act(*args)
         except OSError as cause:
             return self._end(self._why_broken(cause))
 
     def _end(self, sentence: str) -> None:
+        """Closes the channel for good, and raises `Lost` with this sentence."""
         self._ended = sentence
         self._close()
         raise Lost(sentence)
@@ -139,21 +141,27 @@ class Channel:
     # What a kind of channel does its own way. `_write` returns how many bytes were taken. `_read` returns b"" at the end
     # of all, and None if there is nothing yet. `_wait` returns whether something can be done within the seconds.
     def _write(self, data: memoryview) -> int:
+        """Writes some of the bytes, and returns how many."""
         raise NotImplementedError
 
     def _read(self) -> Optional[bytes]:
+        """Reads what is there: b"" at the end of all, None if there is nothing yet."""
         raise NotImplementedError
 
     def _wait(self, is_writing: bool, seconds: Optional[float]) -> bool:
+        """Waits for some seconds at most. Returns whether it can read, or write if `is_writing`."""
         raise NotImplementedError
 
     def _close(self) -> None:
+        """Frees what the system holds for the channel."""
         raise NotImplementedError
 
     def _why_ended(self) -> str:
+        """The sentence for an end of the other side."""
         return "The host closed the connection."
 
     def _why_broken(self, cause: OSError) -> str:
+        """The sentence for an error of the system."""
         return f"The connection broke: {cause.strerror or cause}."
 
 

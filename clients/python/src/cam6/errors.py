@@ -98,6 +98,7 @@ class Fault(Cam6Error):
         return sentences(self.number)[2]
 
     def _describe(self) -> str:
+        """The message: number, sentence, advice, and the place in the line if the reply has one."""
         parts = [f"{self.number}: {self.sentence} {self.advice}"]
         if self.token is not None:
             parts.append(shown_token(command_of(self.line).get("text", ""), self.token))

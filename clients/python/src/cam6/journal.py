@@ -106,6 +106,7 @@ class Journal:
         return whole
 
     def _take(self, entry: dict[str, Any], is_first: bool) -> None:
+        """Applies a line of the file to the state in memory. Raises an error if it is none of a journal."""
         if is_first:
             if entry["journal"] != 1 or entry["limit"] not in (128, 256, 512):
                 raise ValueError
@@ -131,10 +132,12 @@ class Journal:
     # What happens, in memory
 
     def _apply_part(self, line: bytes, reply: bytes) -> None:
+        """Moves some steps of the first pending command to the tail."""
         self.tail.append((line, reply))
         self.pending[0] = rest_of(self.pending[0], line)
 
     def _apply_reply(self, reply: Optional[bytes]) -> None:
+        """Moves the first pending command to the tail, unless it changed nothing (None). A load empties the tail."""
         line = self.pending.popleft()
         if reply == lines.LOADED:
             self.load, self.tail = line, []
@@ -142,6 +145,7 @@ class Journal:
             self.tail.append((line, reply))
 
     def _apply_drop(self, count: int) -> None:
+        """Forgets all pending commands, of which there must be `count`."""
         if count != len(self.pending):
             raise ValueError
         self.pending.clear()
@@ -193,6 +197,7 @@ class Journal:
             self._close()
 
     def _close(self) -> None:
+        """Closes the file without writing it to the disk."""
         if self._file:
             self._file.close()
             self._file = None

@@ -109,18 +109,22 @@ def nothing(replies: list[bytes]) -> None:
 
 
 def _position(replies: list[bytes]) -> int:
+    """The position in the cycle, of a reply to `run` or `back`."""
     return int(replies[-1][replies[-1].rindex(b":") + 1 : -1])
 
 
 def _colours(replies: list[bytes]) -> str:
+    """The digits of the colours of a row, of a reply to `colours`."""
     return between(replies[0], b'{"colours":"', b'","ok":"colours"}').decode("ascii")
 
 
 def _count(replies: list[bytes]) -> int:
+    """The number of cells, of a reply to `count`."""
     return int(between(replies[0], b'{"count":', b',"ok":"count"}'))
 
 
 def _names(replies: list[bytes]) -> list[str]:
+    """The names of the rules, of a reply to `rules`."""
     return [str(name) for name in json.loads(replies[0])["names"]]
 
 
@@ -158,6 +162,7 @@ def row(plane: Any, row: Any, side: int) -> Call[bytes]:
     line = row_line(number(plane, "plane", 0, 3), number(row, "row", 0, side - 1))
 
     def read(replies: list[bytes]) -> bytes:
+        """The cells of the row, a byte each."""
         digits = digits_of_reply(replies[0])
         return bytes(cells.bits_of_digits(digits, len(digits) * 4)[0])
 
@@ -172,6 +177,7 @@ def array_of_reply(reply: bytes) -> Array:
 
 
 def _array(replies: list[bytes]) -> Array:
+    """The cells of a plane by row and column, of a reply to `plane`."""
     return array_of_reply(replies[0])
 
 
@@ -185,6 +191,7 @@ def states() -> Call[Array]:
     """Shows the states of all cells."""
 
     def read(replies: list[bytes]) -> Array:
+        """The states of all cells, by row and column."""
         return cells.states_of([array_of_reply(reply) for reply in replies])
 
     return Call([b'{"do":"plane","plane":%d}' % plane for plane in range(4)], b'{"ok":"plane","rows":[', read)
@@ -286,6 +293,7 @@ def all_colours(side: int) -> Call[Array]:
     """Shows the colours of all cells."""
 
     def read(replies: list[bytes]) -> Array:
+        """The colours of all cells, by row and column."""
         return cells.numbers_of([_colours([reply]) for reply in replies])
 
     return Call([b'{"do":"colours","row":%d}' % row for row in range(side)], b'{"colours":"', read)
@@ -340,6 +348,7 @@ def ask(line: Any) -> Call[dict[str, Any]]:
 
 
 def _line_of(line: Any) -> bytes:
+    """A line as bytes, of a text or of bytes."""
     if isinstance(line, str):
         return text_of(line, "line").encode()
     if isinstance(line, (bytes, bytearray)):

@@ -73,10 +73,12 @@ class Machine:
         self._transport.close()
 
     def _query(self, sent: Sequence[bytes]) -> list[bytes]:
+        """The replies to lines, while no other thread sends any."""
         with self._lock:
             return self._transport.query(sent)
 
     def _now(self, call: Call[T]) -> T:
+        """Sends the lines of a call, and returns its value."""
         value = outcome(call, self._query(call.lines))
         if call.side is not None:
             self._side = call.side
@@ -196,6 +198,7 @@ class Machine:
         self._now(self._rule(name, text, half, hood, minor))
 
     def _rule(self, name: Any, text: Any, half: Any, hood: Any, minor: Any) -> Call[None]:
+        """The call that defines a rule, given by its parts or as a value."""
         if text is None and hasattr(name, "text"):
             name, text = getattr(name, "name", None), name
         if isinstance(text, str) or not hasattr(text, "text"):
@@ -230,6 +233,7 @@ class Machine:
         self._now(self._cycle(entries))
 
     def _cycle(self, entries: Iterable[Any]) -> Call[None]:
+        """The call that sets the cycle, each entry spelled out."""
         spelled: list[Any] = []
         for entry in entries:
             spelled += self._entries_of(entry) if hasattr(entry, "cycle") else [entry]
@@ -305,6 +309,7 @@ class Machine:
         return self._frames(n, shown, moved, ahead)
 
     def _frames(self, n: int, shown: Call[Array], moved: Call[int], ahead: int) -> Iterator[Array]:
+        """Yields `n` pictures, and does the steps after each. Up to `ahead` are asked for in one write."""
         each = [*shown.lines, *moved.lines]
         while n > 0:
             some = min(n, ahead)
@@ -380,6 +385,7 @@ class Machine:
 
 
 def _truth(value: Any, name: str) -> bool:
+    """Checks that a value is True or False, and returns it."""
     if not isinstance(value, bool):
         raise TypeError(f"{name} is True or False, not {value!r:.60}")
     return value

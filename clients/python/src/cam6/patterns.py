@@ -83,6 +83,7 @@ class Pattern:
 
 
 def _array(rows: Sequence[bytes]) -> Any:
+    """Rows as numpy's array by row and column, or as a list of bytes without numpy."""
     module = numpy()
     if module is None:
         return list(rows)
@@ -91,6 +92,7 @@ def _array(rows: Sequence[bytes]) -> Any:
 
 
 def _plane(rows: Sequence[bytes], plane: int) -> Rows:
+    """The bits of one plane of rows of states."""
     bits = bytes(state >> plane & 1 for state in range(256))
     return tuple(row.translate(bits) for row in rows)
 
@@ -139,12 +141,14 @@ def load(path: Union[str, "os.PathLike[str]"]) -> Pattern:
 
 
 def _in_file(name: str, error: PatternError) -> PatternError:
+    """An error of a text as one of a file: with its name in front."""
     named = PatternError(f"{name}: {error}")
     named.line, named.column = error.line, error.column
     return named
 
 
 def _header(line: str, number: int) -> Pattern:
+    """An empty pattern with the width, height and rule of a header line. Raises PatternError."""
     found = re.fullmatch(r"x\s*=\s*(\d+)\s*,\s*y\s*=\s*(\d+)\s*(?:,\s*rule\s*=\s*(.*?)\s*|,.*)?", line)
     if found is None:
         raise PatternError(f"{line[:40]!r} is no header such as x = 3, y = 3", number, 1)
@@ -155,6 +159,7 @@ def _header(line: str, number: int) -> Pattern:
 
 
 def _remarks(pattern: Pattern) -> Pattern:
+    """The pattern with the place and the generation that its comments give."""
     for line in pattern.comments.split("\n"):
         if found := re.match(r"#CXRLE\b.*?\bPos\s*=\s*(-?\d+)\s*,\s*(-?\d+)", line) or re.match(
             r"#[PR]\s+(-?\d+)\s+(-?\d+)", line
@@ -194,6 +199,7 @@ def _rows(pattern: Pattern, lines: List[str], header: int) -> Rows:
 
 
 def _state(sign: str, line: int, column: int) -> int:
+    """The state of a sign. Raises PatternError if it is above 255."""
     if sign in "b.":
         return 0
     if sign == "o":
@@ -269,15 +275,18 @@ def _runs(rows: Rows) -> Iterator[str]:
 
 
 def _sign(state: int) -> str:
+    """The sign of a state above 0, in a pattern of more than two states."""
     more, letter = divmod(state - 1, 24)
     return (chr(111 + more) if more else "") + chr(65 + letter)
 
 
 def _run(count: int, sign: str) -> str:
+    """A run of equal signs as the text has it: its count, if above 1, and the sign."""
     return sign if count == 1 else f"{count}{sign}"
 
 
 def _wrapped(runs: Iterator[str]) -> str:
+    """The runs as lines that are not too long."""
     lines, line = [], ""
     for run in runs:
         if len(line) + len(run) > LINE:
@@ -315,6 +324,7 @@ class Emulated:
         return _array(self._filled())
 
     def _filled(self) -> Rows:
+        """The rows, where what is no cell has the state of the outside."""
         fill = bytes([self.filling])
         return tuple(
             bytes(fill[0] if no_cell else state for state, no_cell in zip(row, none))

@@ -69,6 +69,7 @@ class Picture:
         return 1 if most < 2 else 2 if most < 4 else 4
 
     def _head(self, depth: int) -> List[bytes]:
+        """The chunks of a PNG file that come before its pixels: its size and its colours."""
         size = struct.pack(">IIBBBBB", self.width, self.height, depth, 3, 0, 0, 0)
         lights = b"".join(bytes(light) for light in self._lights[: 1 << depth])
         return [_chunk(b"IHDR", size), _chunk(b"PLTE", lights)]
@@ -263,6 +264,7 @@ def _array_rows(cells: Any) -> List[bytes]:
 
 
 def _row(row: Any) -> bytes:
+    """A row of cells as bytes. Raises PictureError if it is none."""
     if isinstance(row, (bytes, bytearray)):
         return bytes(row)
     try:
@@ -272,6 +274,7 @@ def _row(row: Any) -> bytes:
 
 
 def _cropped(rows: List[bytes], crop: Optional[Crop]) -> List[bytes]:
+    """The rows of a window, which may reach round the torus."""
     if crop is None:
         return rows
     try:
@@ -288,6 +291,7 @@ def _cropped(rows: List[bytes], crop: Optional[Crop]) -> List[bytes]:
 
 
 def _within(what: str, number: Any, least: int, most: int) -> int:
+    """A whole number from `least` to `most`. Raises PictureError for another value."""
     try:
         value = operator.index(number)
     except TypeError:
@@ -304,18 +308,22 @@ def _hue(light: Light) -> int:
 
 
 def _chunk(kind: bytes, body: bytes) -> bytes:
+    """A chunk of a PNG file, with its size and its checksum."""
     return struct.pack(">I", len(body)) + kind + body + struct.pack(">I", zlib.crc32(kind + body))
 
 
 def _file(head: Sequence[bytes], *chunks: bytes) -> bytes:
+    """A PNG file of these chunks."""
     return b"".join([b"\x89PNG\r\n\x1a\n", *head, *chunks, _chunk(b"IEND", b"")])
 
 
 def _end_of(path: Union[str, "os.PathLike[str]"]) -> str:
+    """The ending of a file's name, in small letters."""
     return os.path.splitext(os.fspath(path))[1].lower()
 
 
 def _save(path: Union[str, "os.PathLike[str]"], maker: Any, refusal: str) -> None:
+    """Writes what a function makes to a file. Raises PictureError with `refusal` if there is no such function."""
     if maker is None:
         raise PictureError(f"{refusal}, not as in {os.fspath(path)!r}")
     data = maker()

@@ -93,6 +93,7 @@ class Pipeline:
         return results
 
     def _result(self, call: Call[T], replies: list[bytes], index: int) -> Any:
+        """The value of a call by its replies. If it is a fault, notes its place in the pipeline."""
         try:
             value = outcome(call, replies)
         except Fault as fault:
@@ -103,6 +104,7 @@ class Pipeline:
         return value
 
     def _later(self, call: Call[Any]) -> Pipeline:
+        """Adds a call to the pipeline."""
         self._calls.append(call)
         if call.side is not None:
             self._side = call.side

@@ -185,12 +185,14 @@ def _births_and_survivals(
 
 
 def _counted(neighbours: int) -> Tuple[str, str]:
+    """The words that count four or eight neighbours, and the neighbourhood that has them."""
     if neighbours not in (4, 8):
         raise RuleError(f"a cell has 4 or 8 neighbours, not {neighbours!r}")
     return (_EIGHT, "N/MOORE") if neighbours == 8 else (_FOUR, "N/VONN")
 
 
 def _counts(counts: Iterable[int], most: int) -> List[int]:
+    """The numbers of a list of counts. Raises RuleError if one is above `most`."""
     numbers = [_number(count) for count in _listed(counts)]
     for number in numbers:
         if not 0 <= number <= most:
@@ -199,6 +201,7 @@ def _counts(counts: Iterable[int], most: int) -> List[int]:
 
 
 def _digits(counts: str) -> str:
+    """The digits of a list of counts, without the M in front."""
     digits = counts.strip().upper()
     digits = digits[1:] if digits.startswith("M") else digits
     if not re.fullmatch("[0-9]*", digits):
@@ -274,6 +277,7 @@ def blocks(
         return margolus(numbers, half=half, edge=edge, name=name)
 
     def kept_outside(block: Block) -> Sequence[int]:
+        """What a block becomes. One with a cell of a higher state stays."""
         return block if max(block) >= states else _checked_block(after(block), states)
 
     tables = _by_corner(kept_outside, 4)
@@ -304,6 +308,7 @@ class _Table:
         self.transitions: List[Tuple[List[str], List[str]]] = []
 
     def next_block(self, block: Block) -> Tuple[int, ...]:
+        """What the first transition that fits makes of a block. One that none fits stays."""
         for left, right in self.transitions:
             for places in _SYMMETRIES[self.symmetries]:
                 found = self.bound([left[place] for place in places], block)
@@ -324,6 +329,7 @@ class _Table:
 
 
 def _table_of(text: str) -> _Table:
+    """Reads a rule table of Golly. Raises RuleError with the line."""
     table, is_margolus = _Table(), False
     for number, line in enumerate(text.splitlines(), 1):
         line = line.lstrip("# \t").split("#")[0].strip()
@@ -349,10 +355,12 @@ def _table_of(text: str) -> _Table:
 
 
 def _bits(number: int) -> Block:
+    """The four cells of a block, by its number's bits."""
     return number & 1, number >> 1 & 1, number >> 2 & 1, number >> 3 & 1
 
 
 def _checked_block(block: Sequence[int], states: int) -> Tuple[int, ...]:
+    """A block as a tuple. Raises RuleError if it is none of four cells with so many states."""
     cells = tuple(_number(cell) for cell in block)
     if len(cells) != 4 or not all(0 <= cell < states for cell in cells):
         raise RuleError(f"{block!r} is no block of four cells with states 0 to {states - 1}")
@@ -452,6 +460,7 @@ def _wiring_of(parameters: List[str], hood: Optional[str], minor: Optional[str])
 
 
 def _wired(name: str, hood: str, minor: str) -> Optional[str]:
+    """The name of the wiring for a parameter's name, or None if the wiring lacks it."""
     if name in HOODS[hood]:
         return name
     other = "&" + name.replace("OTHER", "CENTER") if name != "CENTER" and name != "CENTER'" else name
@@ -479,6 +488,7 @@ def _values(function: Callable[..., Any], count: int) -> Tuple[List[int], bool]:
 
 
 def _is_pair(value: Any) -> bool:
+    """Whether a value is a tuple or list of two."""
     return isinstance(value, (tuple, list)) and len(value) == 2
 
 
@@ -526,6 +536,7 @@ def _halves(values: List[int], k: int) -> Tuple[List[int], List[int]]:
 
 
 def _estimate(names: List[str], values: List[int]) -> int:
+    """How long the words of a flat case would be."""
     names, values = _needed(names, values)
     return _size(_flat(names, values)) if names else 1
 
@@ -558,6 +569,7 @@ def _classes(names: List[str], values: List[int]) -> List[List[int]]:
 
 
 def _can_swap(values: List[int], i: int, j: int) -> bool:
+    """Whether the values stay if the bits i and j of each address change places."""
     swap = (1 << i) | (1 << j)
     return all(
         value == values[address ^ swap] for address, value in enumerate(values) if address >> i & 1 != address >> j & 1
@@ -651,10 +663,12 @@ def _image(program: words.Program, state: int, phase: int) -> int:
 
 
 def _lower(half: str) -> str:
+    """The word that writes the lower plane of a half."""
     return ">PLN2" if half == "B" else ">PLN0"
 
 
 def _both(half: str) -> str:
+    """The word that writes both planes of a half."""
     return ">PLNB" if half == "B" else ">PLNA"
 
 

@@ -61,6 +61,7 @@ class Connector:
         raise last
 
     def _seated(self, address: Address, until: float) -> Connection:
+        """Tries the seats of one host in order. Raises `NoSeat` if none is free, and `Lost`."""
         taken, end = 0, self.seats + 1
         for seat in self._order():
             if seat >= end:
@@ -81,12 +82,14 @@ class Connector:
         raise NoSeat(self._why_none(address, taken, end))
 
     def _order(self) -> list[int]:
+        """The seats to try, the last one first. A bound connector has one alone."""
         if self.is_bound and self.seat is not None:
             return [self.seat]
         first = [] if self.seat is None else [self.seat]
         return first + [seat for seat in range(1, self.seats + 1) if seat != self.seat]
 
     def _first_reply(self, there: Connection, seat: int, seconds: float) -> bytes:
+        """Asks for a seat, and returns the reply. Closes the connection if there is none."""
         replies: list[bytes] = []
         try:
             there.exchange([b'{"seat":%d}' % seat], replies.extend, time.monotonic() + min(TO_SIT, seconds))
@@ -96,6 +99,7 @@ class Connector:
         return replies[0]
 
     def _why_none(self, address: Address, taken: int, end: int) -> str:
+        """Says why no seat was free, and what to do."""
         where = f"{address[0]}:{address[1]}"
         if self.is_bound and taken:
             return f"Seat {self.seat} at {where} is taken. Ask for another one, or wait until it is free."
@@ -178,6 +182,7 @@ class Session:
         self.resumed = list(zip(waiting, self._finish()))
 
     def _time_of_deadline(self) -> float:
+        """When the next call has to have made progress, by `time.monotonic()`."""
         return float("inf") if self.deadline is None else time.monotonic() + self.deadline
 
     def _patience(self) -> float:
@@ -232,6 +237,7 @@ class Session:
         return replies
 
     def _why_given_up(self, cause: Exception) -> str:
+        """Says which command could not be done, and what failed last."""
         what = "A host was lost each time that it did" if self._is_sent else "No host could do"
         return f"{what} {shortened(self.journal.pending[0])}, for {self.deadline:g} seconds. At last: {cause}"
 
@@ -246,6 +252,7 @@ class Session:
         self._is_sent = True
 
         def heard(some: list[bytes]) -> None:
+            """Notes replies in the journal as they come."""
             self._done += len(some)
             replies.extend(some)
             self.journal.record_replies(some)
@@ -268,6 +275,7 @@ class Session:
         return max(1, min(lines.MOST_STEPS, int(self._rate * max(self.every_seconds, 0.01))))
 
     def _is_long(self, line: bytes) -> bool:
+        """Whether a line is a run of more steps than one checkpoint interval takes."""
         found = lines.STEPS.fullmatch(line)
         return found is not None and self._most_steps() < int(found[2]) <= lines.MOST_STEPS
 
@@ -291,6 +299,7 @@ class Session:
     # Checkpoints
 
     def _checkpoint_if_due(self) -> None:
+        """Saves the machine if answers took long enough, or if the journal is large."""
         is_long_ago = self._busy >= self.every_seconds and self.journal.tail
         if is_long_ago or self.journal.size > MOST_JOURNAL:
             self.checkpoint()
@@ -356,6 +365,7 @@ class Session:
         self._there = there
 
     def _compare_limit(self, there: Connection, until: float) -> None:
+        """Raises `Diverged` if the host's largest side is not that of the session."""
         replies: list[bytes] = []
         there.exchange([b'{"do":"side","side":512}', b'{"do":"side","side":256}'], replies.extend, until)
         limit = next((side for side, reply in zip((512, 256), replies) if reply == b'{"ok":"side"}'), 128)
@@ -366,6 +376,7 @@ class Session:
             )
 
     def _leave(self) -> None:
+        """Closes the connection. The session goes on at another seat."""
         if self._there is not None:
             self._there.close()
             self._there = None

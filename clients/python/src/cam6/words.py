@@ -74,6 +74,7 @@ class Program:
         self._read(re.findall("[^ \t\r\n]+", text))
 
     def _read(self, tokens: List[Token]) -> None:
+        """Reads all definitions of a text. Raises WordError with the token."""
         last: Optional[str] = None
         at = 0
         while (at := _past_comments(tokens, at)) < len(tokens):
@@ -89,6 +90,7 @@ class Program:
         self.last = last
 
     def _is_word(self, token: Token) -> bool:
+        """Whether a token has a meaning of its own, so that no definition may have it as its name."""
         signs = token in (":", ";", "(", ")", "{", "}", "IF", "ELSE", "THEN", "0=")
         known = token in _TWO or token in _MOVES or any(token in _OUTPUTS[half] for half in "AB")
         named = any(token in names for names in (*HOODS.values(), *MINORS.values()))
@@ -130,6 +132,7 @@ class Program:
         raise WordError("the text ends inside braces", len(tokens))
 
     def _word(self, token: Token, at: int) -> Token:
+        """Checks a token within a body, and notes the name if a neighbour has it."""
         if token in self.neighbours:
             if token not in self.names:
                 self.names.append(token)
@@ -152,6 +155,7 @@ class Program:
         return self._said[sight]
 
     def _do(self, body: Body, stack: List[int], seen: Mapping[str, int], written: List[int]) -> None:
+        """Executes a body on the stack. `written` gets the new bits."""
         for item in body:
             if isinstance(item, Choice):
                 chosen = 0 if _taken(stack, 1)[0] else 1
@@ -166,6 +170,7 @@ class Program:
                 self._do_word(item, stack, seen, written)
 
     def _do_word(self, word: Token, stack: List[int], seen: Mapping[str, int], written: List[int]) -> None:
+        """Executes one word. Raises WordError if a value or the stack is too large."""
         if word in self.neighbours:
             stack.append(seen[word])
         elif _is_number(word):
@@ -192,10 +197,12 @@ class Program:
 
 
 def _is_number(token: Token) -> bool:
+    """Whether a token has digits alone."""
     return token.isascii() and token.isdigit()
 
 
 def _past_comments(tokens: List[Token], at: int) -> int:
+    """The index of the first token from `at` on that is in no comment."""
     while at < len(tokens) and tokens[at] == "(":
         begin = at
         at += 1
