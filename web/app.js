@@ -145,7 +145,7 @@ class Page {
     hideTrouble();
   }
 
-  /** Other cells are there. If they flash after all, a frame has two steps. */
+  /** Shows new cells. If they flash, each frame has an even number of steps from now on. */
   planesChanged() {
     const { machine, time } = this;
     this.screen.change();

@@ -42,7 +42,7 @@ OPEN = """(new Promise(done => {
 
 
 def state_is(teacher: Teacher, state: str, text: str = "") -> None:
-    """Waits until the page has a state, and says this text of it. It says so only until it tries again."""
+    """Waits until the page is in a state and shows this text of it. It shows it only until it tries again."""
     says = f"document.getElementById('state-says').textContent.includes('{text}')"
     teacher.wait_until(f"{TORUS}.state === '{state}' && {says}")
 

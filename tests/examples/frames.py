@@ -54,7 +54,7 @@ def terminal(colour: Callable[[int, int], int]) -> str:
 
 
 def draw_frames() -> str:
-    """Both frames."""
+    """Both frames, as cam6_draw writes them to a terminal."""
     return terminal(in_plane) + terminal(in_colours)
 
 

@@ -28,7 +28,7 @@ class Plane(NamedTuple):
     cells: Cells = frozenset()
 
     def has(self, cell: Cell) -> int:
-        """Whether a cell is set."""
+        """1 if a cell is set, and else 0."""
         return self.ground ^ (cell in self.cells)
 
     def rows(self, side: int) -> list[int]:
@@ -162,7 +162,7 @@ class PlainMachine:
         self.side, self.planes = 256, [Plane()] * 4
 
     def step(self) -> None:
-        """A step."""
+        """Does a step of the entry at the position."""
         entry = self.entries[self.position]
         torus, planes = Torus(self.side, self.planes, entry["grid"] == "ODD", entry["phase"]), [*self.planes]
         for name in {entry["a"], entry["b"]} - {"-"}:
@@ -173,7 +173,7 @@ class PlainMachine:
         self.position = (self.position + 1) % len(self.entries)
 
     def answer(self, line: bytes) -> bytes:
-        """The reply to a line."""
+        """Does a command, and returns its reply."""
         command = json.loads(line)
         word = command.pop("do")
         reply = getattr(self, f"do_{word}")(**command)
@@ -182,7 +182,7 @@ class PlainMachine:
         ).encode()
 
     def do_side(self, side: int) -> dict[str, Any]:
-        """A blank torus, from the first entry on."""
+        """Makes a blank torus, and goes to the first entry."""
         self.side, self.planes, self.position = side, [Plane()] * 4, 0
         return {}
 
@@ -194,12 +194,12 @@ class PlainMachine:
         return {}
 
     def do_cycle(self, entries: list[dict[str, Any]]) -> dict[str, Any]:
-        """A cycle, from its first entry on."""
+        """Keeps a cycle, and goes to its first entry."""
         self.entries, self.position = entries, 0
         return {}
 
     def do_set(self, plane: int, row: int, bits: str) -> dict[str, Any]:
-        """A row."""
+        """Sets a row."""
         kept = frozenset(cell for cell in Torus(self.side, self.planes).cells(plane) if cell[1] != row)
         cells = enumerate(f"{int(bits, 16):0{self.side}b}")
         self.planes = [*self.planes]
@@ -207,33 +207,33 @@ class PlainMachine:
         return {}
 
     def do_run(self, n: int) -> dict[str, Any]:
-        """Steps."""
+        """Does steps."""
         for _ in range(n):
             self.step()
         return {"position": self.position}
 
     def do_back(self, n: int) -> dict[str, Any]:
-        """Back to what was there."""
+        """Goes back to the planes before so many steps."""
         for _ in range(n):
             self.planes = self.past.pop()
         self.position = (self.position - n) % len(self.entries)
         return {"position": self.position}
 
     def do_plane(self, plane: int) -> dict[str, Any]:
-        """All rows of a plane."""
+        """Shows all rows of a plane."""
         return {"rows": [f"{row:0{self.side // 4}x}" for row in self.planes[plane].rows(self.side)]}
 
     def do_map(self, colours: list[int]) -> dict[str, Any]:
-        """Colours of the states."""
+        """Keeps the colours of the states."""
         self.colours = colours
         return {}
 
     def do_colours(self, row: int) -> dict[str, Any]:
-        """A row in colours."""
+        """Shows the colours of a row."""
         states = states_of(self.planes, ((x, row) for x in range(self.side)))
         return {"colours": "".join(f"{self.colours[state]:x}" for state in states)}
 
     def do_count(self, mask: int) -> dict[str, Any]:
-        """How many cells have one of the states of a mask."""
+        """Counts the cells with one of the states of a mask."""
         counted = states_counted(self.side, *self.planes)
         return {"count": sum(number for state, number in counted.items() if mask >> state & 1)}

@@ -137,7 +137,7 @@ def of_block(state: int, phase: int, place: int) -> View:
 
 @cache
 def entries(wiring: str, formula: Formula) -> list[int]:
-    """The table of a formula."""
+    """The entry of each address by a formula."""
     _, hood, minor = wiring.split()
     names = list(map(name_at, lines_of(hood, minor)))
     seen = (View({name: address >> line & 1 for line, name in enumerate(names)}) for address in range(4096))
@@ -145,7 +145,7 @@ def entries(wiring: str, formula: Formula) -> list[int]:
 
 
 def images(formula: Formula, phase: int) -> list[int]:
-    """What each state becomes."""
+    """What each state of a block becomes by a formula."""
     blocks = [[formula(of_block(state, phase, place)) for place in PLACES] for state in STATES]
     return [sum(lower << k | upper << 4 + k for k, (lower, upper) in enumerate(block)) for block in blocks]
 

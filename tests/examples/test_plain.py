@@ -85,7 +85,7 @@ def voted(votes: set[int], torus: Torus, cells: Cells) -> Iterable[Cell]:
 
 
 def trace(torus: Torus) -> dict[int, Plane]:
-    """What half A was, and all cells that have changed before that."""
+    """Plane 2 becomes what plane 0 was. Plane 3 keeps all cells that have changed before."""
     now, before, changed = map(torus.cells, (0, 2, 3))
     return {2: Plane(0, now), 3: Plane(0, changed | now ^ before)}
 
@@ -152,7 +152,7 @@ def lines(name: str) -> list[list[bytes]]:
 
 @cache
 def example(name: str) -> Example:
-    """A worked example."""
+    """A worked example of this name."""
     return Example(TOP / f"crates/cam6_host/sessions/{name}.example")
 
 

@@ -80,7 +80,7 @@ class PlacedExample(Example):
         self.wanted_at = self.at
 
     def want(self, text: str) -> None:
-        """Wants a line, or several."""
+        """Adds wanted lines, and notes where they stand."""
         before = self.last_part().wanted.count(b"\n")
         super().want(text)
         self.places += [self.wanted_at] * (self.last_part().wanted.count(b"\n") - before)

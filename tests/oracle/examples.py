@@ -28,7 +28,7 @@ class Unplayable(ValueError):
 
 
 def piece(text: str) -> bytes:
-    """A text, or bytes by their digits."""
+    """The bytes of a piece: of a text, or of hexadecimal digits after `x`."""
     if not text.startswith("x "):
         return text.encode()
     if not re.fullmatch("x( [0-9A-F]{2})+", text):
@@ -68,7 +68,7 @@ class Rows:
         self.column = self.next_row = 0
 
     def put(self, y: int, digits: str) -> None:
-        """Gives a row its digits."""
+        """Gives a row these digits."""
         if y >= self.side:
             raise Unplayable(f"there is no row {y}")
         self.digits[y] = digits
@@ -115,7 +115,7 @@ class Part:
         self.sent: list[Sent] = []
 
     def bytes_sent(self) -> bytes:
-        """All that is sent."""
+        """All that the part sends."""
         return b"".join(line + end for line, end in self.sent)
 
 
@@ -155,11 +155,11 @@ class Example:
         return self.parts[-1]
 
     def send(self, text: str, end: bytes = b"\n") -> None:
-        """Sends a line."""
+        """Adds a line to what the last part sends."""
         self.last_part().sent.append((written_out(text, self.named), end))
 
     def want(self, text: str) -> None:
-        """Wants a line."""
+        """Adds a line to what the last part wants."""
         self.last_part().wanted += written_out(text, self.named) + b"\n"
 
     def end_rows(self) -> None:
@@ -190,7 +190,7 @@ class Example:
             raise Unplayable(f"there is no mark {mark}")
 
     def name_text(self, rest: str) -> None:
-        """Names a text."""
+        """Keeps a text under a name, for marks in later lines."""
         name, _, text = rest.partition(" ")
         if name in self.named:
             raise Unplayable(f"two texts are named {name}")

@@ -96,7 +96,7 @@ class Reader:
         self.definitions: dict[str, Definition] = {}
 
     def fault(self, number: int) -> NoReturn:
-        """Stops at the last token."""
+        """Raises a fault of this number at the last token."""
         raise TextFault(number, self.at)
 
     def token(self) -> str | None:
@@ -105,7 +105,7 @@ class Reader:
         return self.tokens[self.at - 1] if self.at <= len(self.tokens) else None
 
     def word(self) -> str | None:
-        """The next token after comments."""
+        """Reads the next token that is in no comment, or None at the end."""
         token = self.token()
         while token == "(":
             token = self.token()
@@ -130,7 +130,7 @@ class Reader:
         return last or self.fault(27)
 
     def definition(self) -> Definition:
-        """A name and a body."""
+        """Reads a definition: a name and a body."""
         name = self.token() or self.fault(22)
         if name in RESERVED or LITERAL.fullmatch(name) or name in self.definitions:
             self.fault(21)
@@ -185,7 +185,7 @@ class Reader:
         return item
 
     def known(self, token: str) -> Item:
-        """What a token stands for."""
+        """The item that a token stands for. Raises a fault if there is none."""
         if LITERAL.fullmatch(token):
             digits = token.lstrip("0") or "0"
             if len(digits) > 5 or int(digits) > LARGEST:
@@ -222,7 +222,7 @@ class Cell:
         self.written = [seen["CENTER"], seen["CENTER'"]]
 
     def do(self, items: list[Item]) -> None:
-        """Does items, one after another."""
+        """Executes items, one after another."""
         for kind, content in items:
             getattr(self, f"do_{kind}")(content)
 
@@ -236,13 +236,13 @@ class Cell:
         return values
 
     def left(self, values: list[int]) -> None:
-        """Leaves values on the stack."""
+        """Pushes values on the stack. Raises a fault if it is full."""
         self.stack += values
         if len(self.stack) > MOST_VALUES:
             raise RuleFault(41)
 
     def do_literal(self, value: int) -> None:
-        """Leaves a number."""
+        """Pushes a number."""
         self.left([value])
 
     def do_neighbour(self, name: str) -> None:
@@ -258,13 +258,13 @@ class Cell:
         self.left(values)
 
     def do_output(self, bits: list[tuple[int, int]]) -> None:
-        """Writes bits of a value."""
+        """Pops a value, and writes bits of it."""
         [value] = self.taken(1)
         for plane, bit in bits:
             self.written[plane] = value >> bit & 1
 
     def do_name(self, definition: Definition) -> None:
-        """Does what was defined."""
+        """Executes a definition."""
         self.do(definition.body)
 
     def do_if(self, bodies: list[list[Item]]) -> None:

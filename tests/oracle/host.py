@@ -157,6 +157,6 @@ class Replay:
         self.host = Host(users, boards, capacity, limit)
 
     def answer(self, line: bytes) -> bytes:
-        """What comes of a line."""
+        """Does an event, and returns its outcome."""
         event = read_line(line, is_event)
         return plain({"fault": event} if isinstance(event, int) else self.host.apply(event))

@@ -44,7 +44,7 @@ def json_of(line: bytes) -> Any:
 
 
 def members(pairs: list[tuple[str, Any]]) -> dict[str, Any]:
-    """An object. A half of a surrogate pair in it can't be encoded, and raises what is a ValueError too."""
+    """The object of these members. Raises a ValueError if a text in it can't be encoded."""
     json.dumps(pairs, ensure_ascii=False).encode()
     return dict(pairs)
 
@@ -104,12 +104,12 @@ def is_object(value: Any, **shapes: Shape) -> bool:
 
 
 def object_of(**shapes: Shape) -> Shape:
-    """What says whether a value is such an object."""
+    """A check for objects whose members pass these checks."""
     return lambda value: is_object(value, **shapes)
 
 
 def is_list_of(is_shape: Shape, length: int | None = None) -> Shape:
-    """What says whether a value is a list of such values, maybe of so many."""
+    """A check for lists whose values pass a check, of this length if one is given."""
     return lambda value: isinstance(value, list) and len(value) in (length or len(value),) and all(map(is_shape, value))
 
 
@@ -135,7 +135,7 @@ def is_machine(value: Any) -> bool:
 
 
 def numbers(names: str) -> dict[str, Shape]:
-    """Keys that have numbers."""
+    """A check for a number under each of these keys."""
     return dict.fromkeys(names.split(), is_number)
 
 

@@ -98,5 +98,5 @@ class Scheduler:
 
 
 def on(word: str, **named: Any) -> list[Event]:
-    """An event."""
+    """A list of one event."""
     return [{"event": word} | named]

@@ -179,12 +179,12 @@ class Asking(RuleBasedStateMachine):
 
     @rule(data=st.data())
     def picture(self, data: st.DataObject) -> None:
-        """A row that is set."""
+        """Sets a row."""
         self.do(do("set", plane=data.draw(PLANES), row=self.row(data), bits=self.digits(data)))
 
     @rule(way=st.sampled_from(["run", "back"]), n=st.integers(0, 4) | st.sampled_from([1000, 65535, 65536]))
     def steps(self, way: str, n: int) -> None:
-        """Steps."""
+        """Does or undoes steps."""
         self.do(do(way, n=n))
 
     @rule(plane=PLANES, data=st.data(), mask=st.sampled_from([1, 2, 65534, 65535]) | st.integers(0, 65535))
@@ -207,7 +207,7 @@ class Asking(RuleBasedStateMachine):
 
     @rule(colours=st.lists(st.integers(0, 15), min_size=16, max_size=16))
     def colours(self, colours: list[int]) -> None:
-        """Other colours."""
+        """Sets other colours."""
         self.do(do("map", colours=colours))
 
     @rule(name=NAMES | NO_NAMES)

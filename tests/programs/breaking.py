@@ -72,11 +72,11 @@ class Speller:
         return self.space() + text + self.space()
 
     def space(self) -> bytes:
-        """Blanks, or none."""
+        """Blanks, or nothing."""
         return self.random.choice(self.spaces)
 
     def joined(self, parts: Iterable[bytes]) -> bytes:
-        """Parts with commas, or blanks."""
+        """Joins parts by commas, with blanks between them."""
         return b",".join(parts) or self.space()
 
     def text(self, text: str) -> bytes:
@@ -126,7 +126,7 @@ class Breaker:
         return Raw(self.random.choice(self.random.choice([NUMBERS, NUMBERS, VALUES])).encode())
 
     def other_value(self, _: Any, inner: Any, key: Any) -> None:
-        """Another value at a place."""
+        """Puts another value under a key or an index."""
         inner[key] = self.any_value()
 
     def number(self, value: Any, inner: Any, key: Any) -> None:
@@ -136,7 +136,7 @@ class Breaker:
         inner[key] = Raw(self.random.choice(NUMBERS).encode())
 
     def left_out(self, _: Any, inner: Any, key: Any) -> None:
-        """Something is left out."""
+        """Removes a key or an index."""
         del inner[key]
 
     def key_more(self, _: Any, inner: Any, key: Any) -> None:

@@ -41,7 +41,7 @@ def texts_of(line: Any) -> list[str]:
 
 
 def lines_of(lines: list[Any]) -> list[str]:
-    """The lines of an example."""
+    """The lines of an example of docs/errors.json."""
     return [text for line in lines for text in texts_of(line)]
 
 

@@ -95,7 +95,7 @@ TWO_TEXTS, [EVICT] = two_texts(), lines(*on("evict"))
 
 @cache
 def replies_to(*sent: bytes) -> Lines:
-    """The replies of the oracle."""
+    """The replies of the oracle to these lines."""
     return answers([*sent])
 
 

@@ -30,13 +30,13 @@ class Place(NamedTuple):
     planes: tuple[int, ...] = (0,)
 
     def words(self) -> list[str]:
-        """The arguments of cam6_rle."""
+        """The arguments by which cam6_rle makes it."""
         words = f"--side {self.side} --column {self.column} --row {self.row} --planes {''.join(map(str, self.planes))}"
         return words.split()
 
 
 def read(cam6_rle: str, words: list[str], text: str) -> Ran:
-    """How cam6_rle reads a text."""
+    """Runs cam6_rle on a text."""
     return ran([cam6_rle, *words], text.encode("latin-1"), patience=60)
 
 

@@ -55,11 +55,11 @@ class Schedules(Asking):
         return users[self.turn % len(users)]
 
     def machine_at(self) -> Machine:
-        """The machine of that user."""
+        """The oracle's machine of the user who has the turn."""
         return self.host.users[self.user_at()].machine
 
     def event(self, word: str, **named: Any) -> None:
-        """An event."""
+        """Does an event at both hosts, and compares."""
         self.tell({"event": word} | named)
 
     def do(self, command: Command) -> None:
@@ -75,7 +75,7 @@ class Schedules(Asking):
 
     @rule(turn=st.integers(0, 31))
     def other_turn(self, turn: int) -> None:
-        """Another user has the turn."""
+        """Gives the turn to another user."""
         self.turn = turn
 
     @precondition(has_user("queued"))
@@ -103,13 +103,13 @@ class Schedules(Asking):
     @precondition(has_board(DEAD))
     @rule()
     def repair(self) -> None:
-        """A board is repaired."""
+        """Repairs a board."""
         self.event("repair", board=self.host.boards_with(DEAD)[0])
 
     @precondition(has_user("finished"))
     @rule(data=st.data())
     def collect(self, data: st.DataObject) -> None:
-        """A user collects a reply."""
+        """Has a user collect a reply."""
         self.event("collect", user=data.draw(st.sampled_from(self.host.with_status("finished"))))
 
     @rule()

@@ -33,11 +33,11 @@ class Sessions(Asking):
         self.do(do("side", side=side))
 
     def machine_at(self) -> Machine:
-        """The machine."""
+        """The oracle's machine."""
         return self.oracle.machine
 
     def do(self, command: Command) -> None:
-        """A command."""
+        """Does a command at both machines, and compares."""
         self.tell(command)
 
     def answer(self, line: bytes) -> bytes | None:

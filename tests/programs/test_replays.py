@@ -43,7 +43,7 @@ class Recorded(Machine):
         return replied
 
     def settle(self) -> None:
-        """Does no steps."""
+        """Replaces the steps of the oracle: does none."""
         self.due = None
 
 
@@ -82,7 +82,7 @@ class Play:
         return bands
 
     def send(self, line: bytes, outcome: bytes | None = None) -> None:
-        """A line, with its outcome."""
+        """Adds a line to what is sent, and its outcome to what is wanted."""
         self.sent.append(line)
         self.wanted.append(self.replay.answer(line) if outcome is None else outcome)
 

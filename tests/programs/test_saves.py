@@ -45,7 +45,7 @@ def is_saved(machine: Command) -> Pair:
 
 
 def is_loaded(machine: Command) -> Pair:
-    """A load, which is done."""
+    """The line that loads a machine, with its reply."""
     return load(machine), plain({"ok": "load"})
 
 

@@ -52,7 +52,7 @@ class Schedule:
         return Asker(random, first, lambda: self.host.users[user].machine.torus.side)
 
     def send(self, event: Command) -> None:
-        """An event."""
+        """Adds an event to what is sent, and its outcome to what is wanted."""
         self.lines.append(plain(event))
         self.wanted.append(plain(self.host.apply(event)))
 

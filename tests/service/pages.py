@@ -46,7 +46,7 @@ def each_row(name: str) -> list[Any]:
 
 
 def text_of(parts: Any) -> str:
-    """The text of a row."""
+    """The bytes of a row of the data, as a text."""
     if isinstance(parts, str):
         return parts
     return "".join(part if isinstance(part, str) else part["text"] * part["times"] for part in parts)
@@ -93,7 +93,7 @@ class AnyFrame(Frame):
     """A frame that may break any rule."""
 
     def check(self) -> None:
-        """Finds nothing wrong."""
+        """Finds no frame wrong, so that a wrong one is sent."""
 
 
 def frame_of(opcode: int, payload: bytes = b"", *, last: bool = True, masked: bool = True, **row: Any) -> bytes:

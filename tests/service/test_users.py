@@ -193,7 +193,7 @@ class Users(RuleBasedStateMachine):
 
     @initialize()
     def begin(self) -> None:
-        """All sit."""
+        """Seats all users."""
         for user in self.plays:
             self.sits(user)
 

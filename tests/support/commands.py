@@ -13,7 +13,7 @@ Command = dict[str, Any]
 
 
 def do(word: str, **named: Any) -> Command:
-    """A command."""
+    """The command of this word and these fields."""
     return {"do": word} | named
 
 
@@ -95,11 +95,11 @@ class Asker:
         return "".join(digits)
 
     def ask_picture(self) -> Command:
-        """A row that is set."""
+        """A command that sets a row."""
         return do("set", plane=self.random.randrange(4), row=self.row(), bits=self.digits())
 
     def ask_steps(self) -> Command:
-        """Steps; fewer at large sides."""
+        """A command of steps, fewer at large sides."""
         some = [*range(1, MOST[self.side()] + 1)]
         return do(self.random.choice(["run", "run", "back"]), n=self.random.choice(self.steps or [0, *some, *some]))
 

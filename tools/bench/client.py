@@ -35,7 +35,7 @@ def measured(what: str, act: Callable[[], Any], times: int, each: int = 1) -> No
 
 
 def measure(machine: cam6.Machine, where: str, times: int) -> None:
-    """Measures a machine."""
+    """Prints how long calls of a machine take."""
     side = machine.side
     rows = [f"{row:0{side // 4}x}" for row in range(side)]
     array = cells.bits_of(rows, side)

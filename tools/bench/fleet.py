@@ -217,7 +217,7 @@ def connections(fleet: Fleet) -> None:
 
 
 def open_connections(fleet: Fleet) -> None:
-    """Memory for connections that stay."""
+    """Prints the memory that open connections take."""
     for what, connect in WAYS.items():
         with ExitStack() as open_:
             before = fleet.front.of_process("VmRSS")

@@ -68,7 +68,7 @@ class Host:
 
 
 def cells() -> Iterator[str]:
-    """Random rows."""
+    """Lines that set all rows of plane 0 at random."""
     number = 7
     for row in range(0, 256):
         bits = 0

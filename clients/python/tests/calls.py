@@ -119,6 +119,6 @@ class Batches(Calls):
         self.want.clear()
 
     def teardown(self) -> None:
-        """The last calls are done."""
+        """Does the last calls."""
         self.execute()
         super().teardown()

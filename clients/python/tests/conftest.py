@@ -25,7 +25,7 @@ def local_machines(cam6: str) -> Iterator[Callable[..., Machine]]:
 
 @pytest.fixture
 def machine(cam6: str) -> Iterator[Machine]:
-    """A machine of side 128."""
+    """A private machine of side 128."""
     with local(cam6, side_limit=128) as it:
         yield it
 
@@ -53,5 +53,5 @@ def port(breaking: Callable[..., Breaking]) -> int:
 
 @pytest.fixture
 def path(tmp_path: Path) -> Path:
-    """The path of a journal."""
+    """The path of a journal that is not there yet."""
     return tmp_path / "journal"

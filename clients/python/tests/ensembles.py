@@ -106,5 +106,5 @@ def counts_by(program: str, *words: str) -> dict[str, list[int]]:
 
 
 def script() -> Any:
-    """The script as a module."""
+    """examples/ensemble.py as a module."""
     return tool("clients/python/examples/ensemble.py")

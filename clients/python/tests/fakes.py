@@ -143,5 +143,5 @@ class Breaking:
 
 
 def once(at: int, what: Any) -> Callable[[int, bytes], Any]:
-    """Breaks at one line alone."""
+    """A `breaks` that returns `what` at line `at`, and None at all others."""
     return lambda number, line: what if number == at else None

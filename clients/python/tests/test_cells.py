@@ -20,7 +20,7 @@ def arrays(request: pytest.FixtureRequest, monkeypatch: pytest.MonkeyPatch) -> N
 
 
 def plain_bits(rows: list[str]) -> list[list[int]]:
-    """The bits of rows."""
+    """The bits of rows of hexadecimal digits."""
     return [bits_of(row) for row in rows]
 
 

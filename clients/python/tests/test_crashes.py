@@ -405,17 +405,17 @@ class Known:
         return replace(self, pending=(), number=self.number - len(self.pending))
 
     def saved(self, load: bytes) -> Known:
-        """After a checkpoint."""
+        """The state after a checkpoint."""
         return replace(self, load=load, tail=())
 
 
 def known_to(made: Journal) -> Known:
-    """What a journal knows."""
+    """The state of a journal: its load line, its tail and what is pending."""
     return Known(made.load, tuple(made.tail), tuple(made.pending), made.number)
 
 
 def known_from(data: Optional[bytes]) -> Known:
-    """What the content of a file says."""
+    """The state of a journal whose file has this content."""
     made = Journal(None, "none", LIMIT)
     made._read(data or b"", "what is left")
     return known_to(made)
@@ -445,14 +445,14 @@ class Journals(RuleBasedStateMachine):
         self.sync = ""
 
     def teardown(self) -> None:
-        """Removes the file."""
+        """Removes the file of the journal."""
         self.disk.end()
         self.used.__exit__(None, None, None)
         self.folder.cleanup()
 
     @initialize(sync=st.sampled_from(["each", "checkpoint"]), failure=st.none() | SOON)
     def begin(self, sync: str, failure: Optional[Failure]) -> None:
-        """Begins a journal."""
+        """Opens a new journal, of which something may fail."""
         self.sync = sync
         self.file = self.power = [Known(lines.blank(LIMIT))]
         self.open(failure)
@@ -480,7 +480,7 @@ class Journals(RuleBasedStateMachine):
 
     @rule(failure=SOON)
     def fail_next(self, failure: Failure) -> None:
-        """Something will fail soon."""
+        """Has one of the next calls of the system fail."""
         self.disk.begin(failure)
 
     def do(self, call: Callable[[], Any], acts: list[Act], sync: Sync = Sync.NEVER, is_known: bool = True) -> None:
@@ -519,7 +519,7 @@ class Journals(RuleBasedStateMachine):
 
     @rule(sent=st.lists(st.sampled_from([RUN, LOAD, b"\xff\xc3", compact(do="clear", plane=0), COUNT]), max_size=3))
     def ask(self, sent: list[bytes]) -> None:
-        """Commands are asked for."""
+        """Records commands."""
         acts: list[Act] = [partial(Known.asked, line=line) for line in sent]
         sync = Sync.SYNCED if self.sync == "each" else Sync.NEVER
         self.do(lambda: self.journal.record_commands(sent), acts, sync, is_known=False)
@@ -527,7 +527,7 @@ class Journals(RuleBasedStateMachine):
     @precondition(lambda self: bool(self.now.pending))
     @rule(count=st.integers(1, 3))
     def answer(self, count: int) -> None:
-        """The first ones have answers."""
+        """Records replies to the first commands that have none."""
         replies = [REPLIES.get(line, DONE) for line in self.now.pending[:count]]
         self.do(
             lambda: self.journal.record_replies(replies), [partial(Known.answered, reply=reply) for reply in replies]
@@ -536,7 +536,7 @@ class Journals(RuleBasedStateMachine):
     @precondition(lambda self: b'"run"' in b"".join(self.now.pending[:1]))
     @rule(steps=st.integers(0, 3))
     def do_part(self, steps: int) -> None:
-        """Some steps of the first one are done."""
+        """Records a part of the first pending run."""
         steps = min(steps, json.loads(self.now.pending[0])["n"])
         part = compact(do="run", n=steps)
         self.do(lambda: self.journal.record_part(part, DONE), [partial(Known.parted, steps=steps)])
@@ -549,7 +549,7 @@ class Journals(RuleBasedStateMachine):
 
     @rule(load=st.sampled_from([LOAD, SAVED]))
     def save(self, load: bytes) -> None:
-        """The machine is saved."""
+        """Makes a checkpoint."""
         self.do(lambda: self.journal.checkpoint(load), [partial(Known.saved, load=load)], Sync.ANEW)
 
     @rule(failure=st.none() | SOON)

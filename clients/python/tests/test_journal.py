@@ -33,7 +33,7 @@ def opened(path: Path) -> Iterator[Opened]:
 
 
 def state_of(opened: Journal) -> Any:
-    """What a journal knows."""
+    """The state of a journal, to be compared."""
     return opened.load, list(opened.tail), list(opened.pending), opened.number
 
 

@@ -284,7 +284,7 @@ class Nobody:
     """A transport that nothing may be sent by."""
 
     def query(self, sent: Sequence[bytes]) -> list[bytes]:
-        """Fails."""
+        """Fails, since nothing may be sent."""
         raise AssertionError(f"sent: {sent!r:.200}")
 
     def close(self) -> None:

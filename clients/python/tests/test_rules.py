@@ -126,7 +126,7 @@ def number_of(block: Block) -> int:
 
 
 def block_of(number: int) -> list[int]:
-    """The block of a number."""
+    """The four cells of a block, by the bits of its number."""
     return [number >> place & 1 for place in range(4)]
 
 

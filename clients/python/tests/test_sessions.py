@@ -502,7 +502,7 @@ PEM = fakes.HERE / "localhost.pem"
 
 
 def server() -> ssl.SSLContext:
-    """How a host speaks TLS."""
+    """The TLS context of a host with a certificate for localhost."""
     context = ssl.SSLContext(ssl.PROTOCOL_TLS_SERVER)
     context.load_cert_chain(PEM)
     return context

@@ -35,7 +35,7 @@ class Commands:
         return json.dumps(self.asker.command(), separators=self.rng.choice([(",", ":"), (", ", ": ")])).encode()
 
     def heard(self, replies: list[bytes]) -> None:
-        """Reads what came of it."""
+        """Keeps the last machine that the replies have saved, as a load line."""
         for reply in replies:
             if reply.startswith(SAVED):
                 self.saved = LOAD + reply[len(SAVED) : -len(b',"ok":"save"}')] + b"}"

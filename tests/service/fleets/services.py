@@ -106,7 +106,7 @@ class Ground:
 
     @contextmanager
     def within(self, node: str) -> Iterator[None]:
-        """Sockets that this thread makes meanwhile are those of a node."""
+        """Runs a `with` block in which this thread makes its sockets at a node."""
         if not self.has_cables:
             yield
             return

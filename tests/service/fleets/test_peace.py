@@ -236,7 +236,7 @@ class Pages:
         return int(self.front.stats(name, "pages")["stot"])
 
     def get(self, path: str, **fields: str) -> Answer:
-        """What a browser is answered."""
+        """Gets a path from the front of the page, with these fields."""
         with self.fleet.ground.within("front"):
             return get(self.plain, path, {"Host": NAME, "Connection": "close", **fields})
 

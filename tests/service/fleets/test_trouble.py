@@ -69,7 +69,7 @@ class Troubles:
             self.pause(0.1, 3, 0.4)
 
     def tell(self, text: str) -> None:
-        """Writes down what happens."""
+        """Writes a text to the log of the run."""
         with (self.fleet.folder / "troubles.log").open("a", encoding="utf-8") as file:
             file.write(f"{time.time():.2f} {text}\n")
 

@@ -138,8 +138,7 @@ class Channel:
         if left is not None and left <= 0 or not self._wait(self._sent < len(self._out), left):
             self._end("No reply came in time.")
 
-    # What a kind of channel does its own way. `_write` returns how many bytes were taken. `_read` returns b"" at the end
-    # of all, and None if there is nothing yet. `_wait` returns whether something can be done within the seconds.
+    # What each kind of channel does its own way.
     def _write(self, data: memoryview) -> int:
         """Writes some of the bytes, and returns how many."""
         raise NotImplementedError
@@ -200,6 +199,7 @@ class Process(Channel):
         self._ended = None
 
     def _write(self, data: memoryview) -> int:
+        """Writes to the program's input. Bytes for a program that has ended count as written."""
         try:
             return os.write(self._writes, data)
         except BlockingIOError:
@@ -208,15 +208,18 @@ class Process(Channel):
             return len(data)  # What the program wrote before it ended, and its status, is read next.
 
     def _read(self) -> Optional[bytes]:
+        """Reads the program's output."""
         try:
             return os.read(self._reads, READ)
         except BlockingIOError:
             return None
 
     def _wait(self, is_writing: bool, seconds: Optional[float]) -> bool:
+        """Waits for the program's input or output."""
         return can_go_on(self._reads, self._writes, is_writing, seconds)
 
     def _close(self) -> None:
+        """Closes both pipes, and kills the program if it does not end."""
         self._to.close()
         self._from.close()
         try:
@@ -227,6 +230,7 @@ class Process(Channel):
         self._errors.close()
 
     def _why_ended(self) -> str:
+        """Says with which status the program ended, and what it wrote to its errors."""
         try:
             status = self._process.wait(TO_END)
         except subprocess.TimeoutExpired:
@@ -262,6 +266,7 @@ class Connection(Channel):
         stream.setblocking(False)
 
     def _write(self, data: memoryview) -> int:
+        """Sends to the host. Bytes for a connection that was reset count as sent."""
         try:
             return self._stream.send(data)
         except (BlockingIOError, ssl.SSLWantReadError, ssl.SSLWantWriteError):
@@ -270,6 +275,7 @@ class Connection(Channel):
             return len(data)  # What the host wrote before it closed is read next.
 
     def _read(self) -> Optional[bytes]:
+        """Reads what the host sent, with what TLS has buffered."""
         try:
             data = self._stream.recv(READ)
             while data and isinstance(self._stream, ssl.SSLSocket) and self._stream.pending():
@@ -279,10 +285,12 @@ class Connection(Channel):
             return None
 
     def _wait(self, is_writing: bool, seconds: Optional[float]) -> bool:
+        """Waits for the socket."""
         number = self._stream.fileno()
         return can_go_on(number, number, is_writing, seconds)
 
     def _close(self) -> None:
+        """Closes the socket."""
         self._stream.close()
 
 

@@ -154,18 +154,18 @@ class Journal:
     # What happens, in memory and in the file
 
     def record_commands(self, commands: Sequence[bytes]) -> None:
-        """Commands are about to be sent. If they can't be written, raises `OSError`, and nothing has changed."""
+        """Notes commands before they are sent. Raises `OSError` if they can't be written, and then nothing has changed."""
         self._write([{"ask": text_of(command)} for command in commands], self.sync == "each", is_known=False)
         self.pending.extend(commands)
         self.number += len(commands)
 
     def record_part(self, line: bytes, reply: bytes) -> None:
-        """Some steps of the first command without an answer were done."""
+        """Notes that some steps of the first pending command were done."""
         self._apply_part(line, reply)
         self._write([{"part": text_of(line), "reply": text_of(reply)}], False)
 
     def record_replies(self, replies: Sequence[bytes]) -> None:
-        """The first commands without an answer have these replies."""
+        """Notes replies to the first pending commands."""
         rows = []
         for reply in replies:
             kept = reply if reply.startswith(lines.CHANGES) else None
@@ -174,7 +174,7 @@ class Journal:
         self._write(rows, False)
 
     def drop_pending(self) -> list[bytes]:
-        """The commands without an answer are given up. Returns them."""
+        """Gives the pending commands up, and returns them."""
         dropped = list(self.pending)
         if dropped:
             self._apply_drop(len(dropped))
@@ -182,7 +182,7 @@ class Journal:
         return dropped
 
     def checkpoint(self, load: bytes) -> None:
-        """The machine that counts is the one of this load line, but for what is not answered."""
+        """Replaces the saved machine and the commands since by this load line. Pending commands stay."""
         self.load, self.tail = load, []
         if self._file:
             self._rewrite()

@@ -111,7 +111,7 @@ class Connector:
 
 
 def seated(connector: Connector) -> Connection:
-    """A seat of a host, for a connection without a journal. A seat that has just been left is waited for."""
+    """Takes a seat for a connection without a journal. Waits for a seat that was just left."""
     until = time.monotonic() + TO_BE_FREE
     while True:
         try:
