@@ -22,10 +22,10 @@ failure program EndOfInput = None
 failure program (NoReply line) = Some (3, at_line program line (codes " is not a reply\n"))
 failure program (BreaksOff line) =
     Some (3, at_line program line (codes " leaves a frame incomplete\n"))
-failure program ReadFault = Some (3, told program (codes "read failed\n"))
-failure program WriteFault = Some (4, told program (codes "write failed\n"))
-failure program NoMemory = Some (5, told program (codes "no memory\n"))
-failure program TooManyLines = Some (6, told program (codes "too many lines\n"))
+failure program ReadFault = Some (3, message_of program (codes "read failed\n"))
+failure program WriteFault = Some (4, message_of program (codes "write failed\n"))
+failure program NoMemory = Some (5, message_of program (codes "no memory\n"))
+failure program TooManyLines = Some (6, message_of program (codes "too many lines\n"))
 
 -- why a text is no pattern
 abbrev pub cause_told : Cause → List ℕ

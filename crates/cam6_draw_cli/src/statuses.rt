@@ -3,7 +3,7 @@ ghost use Rattle.std.specs.Prelude.{◌≡◌, IfOk, IfSome, option_map, string_
 ghost use Rattle.cam6_draw_cli.specs.Statuses.{at_line as at_line_told, cause_told, column_told};
 ghost use Rattle.cam6_draw_cli.specs.Statuses.{failure, fault_told};
 
-use cam6_arguments::{NO_MEMORY, Program, WRITE_FAILED, told};
+use cam6_arguments::{NO_MEMORY, Program, WRITE_FAILED, message_of};
 use cam6_patterns::{Cause, PatternFault};
 use cam6_planes::COLUMNS;
 use cam6_show_frames::End;
@@ -37,10 +37,13 @@ pub fn failure_of(
             BAD_INPUT,
             at_line(alloc, program, line, " leaves a frame incomplete\n"),
         ),
-        End::ReadFault => (BAD_INPUT, told(alloc, program, "read failed\n")),
-        End::WriteFault => (WRITE_FAILED, told(alloc, program, "write failed\n")),
-        End::NoMemory => (NO_MEMORY, told(alloc, program, "no memory\n")),
-        End::TooManyLines => (TOO_MANY_LINES, told(alloc, program, "too many lines\n")),
+        End::ReadFault => (BAD_INPUT, message_of(alloc, program, "read failed\n")),
+        End::WriteFault => (WRITE_FAILED, message_of(alloc, program, "write failed\n")),
+        End::NoMemory => (NO_MEMORY, message_of(alloc, program, "no memory\n")),
+        End::TooManyLines => (
+            TOO_MANY_LINES,
+            message_of(alloc, program, "too many lines\n"),
+        ),
     };
     Some((status, text))
 }

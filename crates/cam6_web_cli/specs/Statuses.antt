@@ -7,5 +7,5 @@ use Rattle.cam6_web_cli.specs.declared.statuses.Fault.TheVariants as server
 
 -- `Network`: the server can't listen at its port, or can't accept a connection
 abbrev pub fault : Fault → ℕ × List ℕ
-fault server.NoMemory = (5, told Web (codes "no memory\n"))
-fault server.Network = (7, told Web (codes "network failed\n"))
+fault server.NoMemory = (5, message_of Web (codes "no memory\n"))
+fault server.Network = (7, message_of Web (codes "network failed\n"))
