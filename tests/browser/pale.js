@@ -9,7 +9,7 @@ const light = rgb => {
   return 0.2126 * r + 0.7152 * g + 0.0722 * b;
 };
 /** The colour of the background that an element has. */
-const behind = element => {
+const background = element => {
   let over = [];
   for (let at = element; at; at = at.parentElement) {
     const [r, g, b, a = 1] = parts(getComputedStyle(at).backgroundColor);
@@ -25,7 +25,7 @@ for (const element of document.querySelectorAll('body *')) {
   if (!text || !element.checkVisibility({ checkOpacity: true, checkVisibilityCSS: true }) || element.disabled
     || element.closest('.unseen, [aria-hidden=true], [disabled], svg')) continue;
   const [r, g, b] = parts(style.color);
-  const [one, two] = [light([r, g, b]), light(behind(element))].sort((a, b) => b - a);
+  const [one, two] = [light([r, g, b]), light(background(element))].sort((a, b) => b - a);
   const size = parseFloat(style.fontSize);
   const least = size >= 24 || size >= 18.6 && Number(style.fontWeight) >= 700 ? 3 : 4.5;
   if ((one + 0.05) / (two + 0.05) < least) {

@@ -8,8 +8,8 @@ import subprocess
 import pytest
 from support.programs import TOP
 
-# Files that may have the old words: what has happened, this list, and pictures.
-FREE = (":!CHANGELOG.md", ":!docs/DECISIONS.md", ":!tests/pages/test_words.py", ":!*.png")
+# Files that may have the old words: what has happened, this list, and packed bytes.
+FREE = (":!CHANGELOG.md", ":!docs/DECISIONS.md", ":!tests/pages/test_words.py", ":!crates/cam6_web_page", ":!*.png")
 RATTLE = ("crates/*.rt", "crates/*.antt", "crates/*.edit")
 # Code of Rattle: a line that isn't a comment.
 CODE = r"^(?!\s*(?://|--)).*"
@@ -37,7 +37,7 @@ GONE = {
         (),
         None,
     ),
-    "behind of time": (r"(?i)(?:\b|_)behind(?:\b|_)|IsBehind", (), "HAProxy|proxy|the colour|character|the light"),
+    "behind of time": (r"(?i)(?:\b|_)behind(?:\b|_)|IsBehind", (), "(?i)proxy|GALLERY|gallery|the colour|the light"),
     "he of a user": (r"\b(?:[Hh]e|[Hh]is|[Hh]im)\b", (), None),
 }
 # A line of each, which must be found.

@@ -202,7 +202,7 @@ REFUSED = [(FIRST, TAKEN), (SEAT % 9, NO_SEAT), ("{", NO_JSON), (FIRST.ljust(100
 
 @pytest.mark.parametrize("shuts", [True, False], ids=["shut", "open"])
 @pytest.mark.parametrize("first, answer", REFUSED, ids=["taken", "no seat", "no JSON", "too long"])
-def test_a_refusal_comes_before_what_is_sent_behind(host: Hosts, first: str, answer: str, shuts: bool) -> None:
+def test_a_refusal_comes_before_what_is_sent_after(host: Hosts, first: str, answer: str, shuts: bool) -> None:
     one = host("--users=1")
     with Peer(one.port, 1):
         for _ in range(10):
@@ -215,7 +215,7 @@ def test_a_refusal_comes_before_what_is_sent_behind(host: Hosts, first: str, ans
                 assert [peer.read(), peer.read()] == [answer, None]
 
 
-def test_nobody_is_let_in_behind_the_last_connection(host: Hosts) -> None:
+def test_nobody_is_let_in_after_the_last_connection(host: Hosts) -> None:
     one = host("--connections=2")
     with Peer(one.port):
         begun = time.monotonic()

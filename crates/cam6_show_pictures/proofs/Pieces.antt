@@ -57,9 +57,9 @@ some_of_more old new bytes more all is some = (
 )
 
 -- all of some bytes, and then a front of others
-pub some_behind : (old now new : Option (List ℕ)) (bytes more all : List ℕ) → all ≡ bytes ++ more
+pub some_after : (old now new : Option (List ℕ)) (bytes more all : List ℕ) → all ≡ bytes ++ more
     → Appends old now bytes → WritesSome now new more → WritesSome old new all
-some_behind old now new bytes more all is whole some = (
+some_after old now new bytes more all is whole some = (
   bytes ++ some.0,
   some.1,
   is ∙ ap (λ l. bytes ++ l) some.2 ∙ sym (append_assoc bytes some.0 some.1),
@@ -96,7 +96,7 @@ pub some_pieces_more : (f : ℕ → List ℕ) (n m : ℕ) (old now new : Option 
     → WritesSome now new bytes → WritesSome old new (flat_map f (range_with_len 0 n))
 some_pieces_more f n m old now new few bytes is before more =
     let rest = first_pieces f n (m + 1) (omega arith) in
-    let both = some_behind old now new _ (f m) _ (piece_more f m) before
+    let both = some_after old now new _ (f m) _ (piece_more f m) before
     (subst (WritesSome now new) is more) in
     some_of_more old new _ rest.0 _ rest.1 both
 
@@ -109,10 +109,10 @@ pieces_more f m old now new bytes is before more =
     (Appends-trans old now new _ (f m) before (subst (Appends now new) is more))
 
 -- bytes that were written, and then others, in whole or a front of them
-pub front_behind : (result : Result (Unit {0}) Unshown) (old now new : Option (List ℕ))
+pub front_after : (result : Result (Unit {0}) Unshown) (old now new : Option (List ℕ))
     (bytes more all : List ℕ) → all ≡ bytes ++ more → Appends old now bytes
     → WritesFront result now new more → WritesFront result old new all
-front_behind (Ok done) old now new bytes more all is whole rest =
+front_after (Ok done) old now new bytes more all is whole rest =
     subst (Appends old new) (sym is) (Appends-trans old now new bytes more whole rest)
-front_behind (Err fault) old now new bytes more all is whole rest =
-    some_behind old now new bytes more all is whole rest
+front_after (Err fault) old now new bytes more all is whole rest =
+    some_after old now new bytes more all is whole rest

@@ -19,16 +19,16 @@ hue light = 16 + 36 * step_of light.red + 6 * step_of light.green + step_of ligh
 abbrev pub order : List ℕ → List ℕ
 order text = 27 ∷ codes "[" ++ text
 
--- the colour of what is drawn, and of what is behind it
+-- the colour of what is drawn, and of its background
 abbrev pub draw_in : ℕ → List ℕ
 draw_in n = order (codes "38;5;" ++ decimal n ++ codes "m")
 
-abbrev pub behind_in : ℕ → List ℕ
-behind_in n = order (codes "48;5;" ++ decimal n ++ codes "m")
+abbrev pub background_in : ℕ → List ℕ
+background_in n = order (codes "48;5;" ++ decimal n ++ codes "m")
 
--- the terminal's own colour behind what is drawn
-abbrev pub behind_plain : List ℕ
-behind_plain = order (codes "49m")
+-- the terminal's own background
+abbrev pub plain_background : List ℕ
+plain_background = order (codes "49m")
 
 -- the upper half of a character's place
 abbrev pub upper_half : List ℕ
@@ -39,7 +39,7 @@ abbrev pub character : Look → List (List ℕ) → ℕ → ℕ → List ℕ
 character look frame k i =
     draw_in (hue (light_shown look frame i (2 * k)))
     ++ (if nat_lt (2 * k + 1) (pixels_high look frame)
-    then behind_in (hue (light_shown look frame i (2 * k + 1))) else behind_plain)
+    then background_in (hue (light_shown look frame i (2 * k + 1))) else plain_background)
     ++ upper_half
 
 -- plain colours, the rest of the line cleared, and the next line

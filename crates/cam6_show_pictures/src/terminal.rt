@@ -4,7 +4,7 @@ ghost use Rattle.std.specs.Prelude.{flat_map, nat_lt, if◌then◌else◌};
 ghost use Rattle.std.specs.List.{range_with_len};
 ghost use Rattle.cam6_show_frames.specs.Front.{WritesFront};
 ghost use Rattle.cam6_show_pictures.specs.Look.{light_shown, most_pixels, pixels_high};
-ghost use Rattle.cam6_show_pictures.specs.Terminal.{behind_in, behind_plain, character, draw_in};
+ghost use Rattle.cam6_show_pictures.specs.Terminal.{background_in, plain_background, character, draw_in};
 ghost use Rattle.cam6_show_pictures.specs.Terminal.{character_line as character_line_of, hue as hue_of};
 ghost use Rattle.cam6_show_pictures.specs.Terminal.{step_of as step_told, terminal as terminal_of};
 
@@ -144,13 +144,13 @@ fn push_character(
         ≡ line.old.items ++ character look.now frame.now k i) }
 {
     push_order(line, b"\x1b[38;5;", hue(look.light(frame, i, 2 * k)))?;
-    push_behind(line, look, frame, i, 2 * k + 1)?;
+    push_background(line, look, frame, i, 2 * k + 1)?;
     line.extend_from_slice(UPPER_HALF)
 }
 
 /// Pushes the order for the colour behind a character: that of pixel (i, j), or the terminal's own
 /// if the picture has no row j.
-fn push_behind(
+fn push_background(
     line: &mut Vec<u8>,
     look: &Look,
     frame: &Frame,
@@ -160,7 +160,7 @@ fn push_behind(
     requires column { i < most_pixels }
     ensures { IfOk result (λ _. line.new.items ≡ line.old.items
         ++ (if nat_lt j (pixels_high look.now frame.now)
-        then behind_in (hue_of (light_shown look.now frame.now i j)) else behind_plain)) }
+        then background_in (hue_of (light_shown look.now frame.now i j)) else plain_background)) }
 {
     if j < look.height(frame) {
         push_order(line, b"\x1b[48;5;", hue(look.light(frame, i, j)))

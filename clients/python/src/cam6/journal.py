@@ -54,7 +54,7 @@ class Journal:
         self.size = 0
         self._file: Optional[IO[bytes]] = None
         # Whether the file lacks what is known here, or may be another one after a crash, since a write or a sync failed.
-        self._is_behind = False
+        self._is_stale = False
         if path is not None:
             try:
                 self._open(path)
@@ -206,7 +206,7 @@ class Journal:
         """Writes lines of what is known already, or not yet."""
         if self._file is None:
             return
-        if self._is_behind:
+        if self._is_stale:
             self._rewrite()
             if is_known:
                 return
@@ -218,7 +218,7 @@ class Journal:
             if is_synced:
                 os.fsync(self._file.fileno())
         except BaseException:
-            self._is_behind = True
+            self._is_stale = True
             raise
         self.size += len(data)
 
@@ -235,7 +235,7 @@ class Journal:
             if self.sync != "none":
                 os.fsync(new.fileno())
             # Until the new name is on the disk the old file may come back, without what is written from now on.
-            self._is_behind = True
+            self._is_stale = True
             os.replace(self.path + ".new", self.path)
         except BaseException:
             new.close()
@@ -244,7 +244,7 @@ class Journal:
         self._file = new
         if self.sync != "none":
             sync_folder(os.path.dirname(self.path) or ".")
-        self._is_behind = False
+        self._is_stale = False
 
     def _first(self) -> dict[str, Any]:
         """All that is known, as the first line of a file. So a file that is cut has all of it, or is no journal."""

@@ -8,4 +8,4 @@ returns c =
     pushed_thrice c.extend_from_slice.result c.args.line.now.items _ _ _ _ _ _
     (c.in_ok-push_order.ensures
     ∙ ap (λ n. c.args.line.now.items ++ draw_in n) (c.hue.ensures ∙ ap hue c.light.ensures))
-    c.in_ok-push_behind.ensures c.extend_from_slice.ensures.items
+    c.in_ok-push_background.ensures c.extend_from_slice.ensures.items

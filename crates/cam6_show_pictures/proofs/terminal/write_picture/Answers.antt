@@ -3,7 +3,7 @@ use Rattle.std.proofs.KnownBytes.{Appends-trans}
 use Rattle.std.specs.List.{range_with_len}
 use Rattle.cam6_show_pictures.specs.Look.{pixels_high}
 use Rattle.cam6_show_pictures.specs.Terminal.{character_line, order, terminal}
-use Rattle.cam6_show_pictures.proofs.Pieces.{front_at_fault, front_behind, some_of_more, some_behind}
+use Rattle.cam6_show_pictures.proofs.Pieces.{front_at_fault, front_after, some_of_more, some_after}
 use Rattle.cam6_show_pictures.proofs.terminal.write_picture.Goals as goal
 
 pub returns-in_err-write_bytes : goal.returns-in_err-write_bytes
@@ -25,7 +25,7 @@ returns-in_err-write_lines g c =
     let lines = flat_map (character_line look frame)
     (range_with_len 0 ((pixels_high look frame + 1) / 2)) in
     front_at_fault _ _ _ _ c.from_residual-in_err-write_lines.ensures.0
-    (some_behind _ (g.W.Write.contents c.write_bytes.new.writer) _ (order (codes "H"))
+    (some_after _ (g.W.Write.contents c.write_bytes.new.writer) _ (order (codes "H"))
     (lines ++ order (codes "J")) _
     (append_assoc (order (codes "H")) lines (order (codes "J"))) c.in_ok-write_bytes.ensures
     (some_of_more _ _ lines (order (codes "J")) _ refl c.in_err-write_lines.ensures))
@@ -37,7 +37,7 @@ returns g c =
     let frame = c.args.frame.now in
     let lines = flat_map (character_line look frame)
     (range_with_len 0 ((pixels_high look frame + 1) / 2)) in
-    front_behind _ _ (g.W.Write.contents c.write_lines.new.writer) _ (order (codes "H") ++ lines)
+    front_after _ _ (g.W.Write.contents c.write_lines.new.writer) _ (order (codes "H") ++ lines)
     (order (codes "J")) _ refl
     (Appends-trans _ (g.W.Write.contents c.write_bytes.new.writer) _ (order (codes "H")) lines
     c.in_ok-write_bytes.ensures c.in_ok-write_lines.ensures)
