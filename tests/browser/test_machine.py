@@ -113,7 +113,7 @@ FAULTS = {
 
 
 @pytest.mark.parametrize("text", FAULTS.values(), ids=FAULTS)
-def test_a_fault_is_told_at_its_token(own: Teacher, text: str) -> None:
+def test_a_fault_is_shown_at_its_token(own: Teacher, text: str) -> None:
     rule = {"name": "F", "half": "A", "hood": "N/VONN", "minor": "&/CENTERS", "text": text}
     (reply,) = map(json.loads, private(own.cam6, [line_of(do="rule", **rule)]))
     entries = json.loads((TOP / "docs" / "errors.json").read_text(encoding="utf-8"))["errors"]

@@ -293,7 +293,7 @@ MEETING: dict[int, set[Cell]] = {
 }
 
 
-def test_balls_that_meet_go_on_two_columns_back() -> None:
+def test_balls_that_meet_go_on_two_columns_late() -> None:
     moved = Torus(128, []).moved
     for n, cells in enumerate(flights("interaction_gate", 0, 23)):
         late = 2 if n > 7 else 0

@@ -197,7 +197,7 @@ def is_spelled(line: bytes, command: dict[str, Any]) -> bool:
     return line == plain(command) and digits == digits.lower()
 
 
-def read_line(line: bytes, is_said: Shape) -> int | dict[str, Any]:
+def read_line(line: bytes, is_shape: Shape) -> int | dict[str, Any]:
     """What a line says, a command or an event; or the number of its fault."""
     if len(line) > (LOAD_LIMIT if line.startswith(LOAD_HEAD) else LINE_LIMIT):
         return 1
@@ -205,7 +205,7 @@ def read_line(line: bytes, is_said: Shape) -> int | dict[str, Any]:
         value = json_of(line)
     except ValueError:
         return 2
-    if not is_said(value):
+    if not is_shape(value):
         return 3
     return value if is_spelled(line, value) else 4
 

@@ -54,7 +54,7 @@ def load_line(saved: str, old: str, new: str) -> str:
     return before + new + after
 
 
-def assert_is_told(entry: Entry, replies: Replies) -> None:
+def assert_is_reported(entry: Entry, replies: Replies) -> None:
     """Fails if the last reply to an entry's example hasn't its number in its place."""
     sent, last = lines_of(entry["lines"]), entry["lines"][-1]
     if isinstance(last, dict) and "load" in last:
@@ -79,7 +79,7 @@ def test_the_program_replies_with_the_number(entry: Entry, cam6: str) -> None:
         sent = "".join(f"{line}\n" for line in lines).encode()
         return ran([cam6, entry["program"]], sent).output.decode().splitlines()
 
-    assert_is_told(entry, replies)
+    assert_is_reported(entry, replies)
 
 
 @of_entries(SERVED)
@@ -93,7 +93,7 @@ def test_a_host_replies_with_the_number(entry: Entry, host: Callable[..., Host])
             replies = [peers[number].ask(text) or "" for number, text in (line.split("> ", 1) for line in lines)]
         return replies
 
-    assert_is_told(entry, replies)
+    assert_is_reported(entry, replies)
 
 
 @of_entries(OTHERS)
@@ -102,7 +102,7 @@ def test_the_oracle_replies_with_the_number(entry: Entry) -> None:
         it: Alone | Replay = Alone(LIMIT) if entry["program"] == "alone" else Replay(USERS, BOARDS, TABLES, LIMIT)
         return [it.answer(line.encode()).decode() for line in lines]
 
-    assert_is_told(entry, replies)
+    assert_is_reported(entry, replies)
 
 
 @of_entries(ENTRIES)

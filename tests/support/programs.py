@@ -120,18 +120,18 @@ class Listener:
         self.errors = []
         command, env = self.command_at(self.port), os.environ | self.env
         self.process = subprocess.Popen(command, stdin=self.stdin, stdout=PIPE, stderr=PIPE, env=env)
-        is_told = threading.Event()
+        has_written = threading.Event()
 
         def listen() -> None:
             assert self.process.stderr
             for line in self.process.stderr:
                 self.errors.append(line.decode(errors="replace").rstrip("\n"))
-                is_told.set()
-            is_told.set()
+                has_written.set()
+            has_written.set()
 
         self.reader = threading.Thread(target=listen, daemon=True)
         self.reader.start()
-        is_told.wait(START)
+        has_written.wait(START)
         if self.errors[:1] == [self.first.format(self.port)]:
             return True
         self.ended(START)

@@ -312,7 +312,7 @@ def difference(plan: Plan, one: Done, other: Done) -> Optional[str]:
     return None
 
 
-def told_times(done: Done, way: str) -> str:
+def times_text(done: Done, way: str) -> str:
     """How long the tasks took."""
     tasks = len(done.counts)
     each = 1000 * done.seconds * done.workers / tasks
@@ -321,7 +321,7 @@ def told_times(done: Done, way: str) -> str:
     return f"{text}. Each took {each:.1f} ms: {within:.1f} within it, and {each - within:.1f} around it"
 
 
-def told_counts(plan: Plan, done: Done) -> str:
+def counts_text(plan: Plan, done: Done) -> str:
     """The mean count of each rule over its seeds, with the deviation, at five steps."""
     last = plan.steps // plan.every
     shown = sorted({last * place // 4 for place in range(5)})
@@ -393,11 +393,11 @@ def ran(asked: argparse.Namespace, folder: Optional[str]) -> int:
     shared = None if asked.serial else by_dask(plan, tasks, asked)
     done = shared or alone
     assert done
-    print(told_counts(plan, done))
+    print(counts_text(plan, done))
     if alone:
-        print(told_times(alone, "serial"))
+        print(times_text(alone, "serial"))
     if shared:
-        print(told_times(shared, "Dask"))
+        print(times_text(shared, "Dask"))
         if folder:
             print(f"parts that were cut off and done anew: {cut_off(plan)}")
     if asked.output:

@@ -325,7 +325,7 @@ def is_json(row: bytes) -> bool:
 
 @settings(deadline=None)
 @given(data=st.data(), asked=st.lists(st.binary(max_size=8), min_size=2, max_size=5), count=st.integers(0, 5))
-def test_a_damaged_middle_is_told(data: st.DataObject, asked: list[bytes], count: int) -> None:
+def test_a_damaged_middle_is_reported(data: st.DataObject, asked: list[bytes], count: int) -> None:
     """A line ends too early, or has other bytes, or goes on with the next one. It is named, and the file stays as it is."""
     with tempfile.TemporaryDirectory() as folder:
         path = Path(folder) / "journal"
@@ -356,7 +356,7 @@ VALUES = st.recursive(
 @given(row=VALUES.map(json.dumps))
 @example(row='{"drop":1e999}')
 @example(row='{"reply":' + "[" * 9999 + "]" * 9999 + "}")
-def test_a_line_that_is_none_of_a_journal_is_told(row: str) -> None:
+def test_a_line_that_is_none_of_a_journal_is_reported(row: str) -> None:
     """Each JSON value is taken as a line of a journal, or reported as damage."""
     with tempfile.TemporaryDirectory() as folder:
         path = Path(folder) / "journal"

@@ -17,15 +17,15 @@ from cam6 import Machine
 
 SOURCE = str(TOP / "clients" / "python" / "src")
 LINES = [compact(do="side", side=128), compact(do="set", plane=0, row=3, bits="f" * 32), compact(do="count", mask=2)]
-Said = tuple[int, str, str]
-Main = Callable[..., Said]
+Result = tuple[int, str, str]
+Main = Callable[..., Result]
 
 
 @pytest.fixture
 def main(cam6: str, tmp_path: Path) -> Main:
     """Runs it with these words in the folder `tmp_path`. Returns its status, its output and its errors."""
 
-    def run(*words: str) -> Said:
+    def run(*words: str) -> Result:
         path = os.pathsep.join([SOURCE, os.environ.get("PYTHONPATH", "")])
         environment = {**os.environ, "PYTHONPATH": path, "CAM6": cam6}
         command = [sys.executable, "-m", "cam6", *words]

@@ -122,7 +122,7 @@ def test_a_host_that_goes_away_in_the_middle(breaking: Callable[..., Breaking]) 
 
 
 @pytest.mark.parametrize("reply", [b"", b"hello", b'{"ok":"other"}', b'{"fault":5}', b"[]"])
-def test_replies_that_no_cam6_gives_are_told(reply: bytes, breaking: Callable[..., Breaking]) -> None:
+def test_replies_that_no_cam6_gives_are_reported(reply: bytes, breaking: Callable[..., Breaking]) -> None:
     """They don't pass for values."""
     calls: dict[str, list[int]] = {"clear": [0], "row": [0, 0], "plane": [0], "rules": [], "run": [1], "colours": [0]}
     for name, arguments in (calls | {"count": [1], "save": [], "cells": []}).items():

@@ -153,12 +153,12 @@ def seats(asked: argparse.Namespace) -> int:
         reply = there.query([b'{"seat":%d}' % seat])[0]
         there.close()
         if reply not in (SEATED, TAKEN):
-            return 0 if seat > 1 else told_no_host(asked.address, reply)
+            return 0 if seat > 1 else report_no_host(asked.address, reply)
         print(f"{seat} {'free' if reply == SEATED else 'taken'}", flush=True)
     return 0
 
 
-def told_no_host(address: str, reply: bytes) -> int:
+def report_no_host(address: str, reply: bytes) -> int:
     """Something else than a host listens there."""
     print(f"cam6 seats: {address} answers {reply[:60]!r}. Does cam6 serve really run there?", file=sys.stderr)
     return 1

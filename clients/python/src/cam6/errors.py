@@ -354,9 +354,9 @@ def shown_cause(fault: Fault) -> str:
     if fault.states is None:
         return where
     one, other = map(block_rows, fault.states)
-    drawn = f"    {one[0]}       {other[0]}\n    {one[1]}   +   {other[1]}"
-    key = "\n    (# the lower plane, o the upper one, @ both)" if "o" in drawn or "@" in drawn else ""
-    return f"{where}, phase {fault.phase}: these two blocks become one.\n{drawn}{key}"
+    picture = f"    {one[0]}       {other[0]}\n    {one[1]}   +   {other[1]}"
+    key = "\n    (# the lower plane, o the upper one, @ both)" if "o" in picture or "@" in picture else ""
+    return f"{where}, phase {fault.phase}: these two blocks become one.\n{picture}{key}"
 
 
 def block_rows(state: int) -> tuple[str, str]:

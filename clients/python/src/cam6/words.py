@@ -70,7 +70,7 @@ class Program:
         self.outputs = _OUTPUTS[half]
         self.definitions: Dict[str, Body] = {}
         self.names: List[str] = []
-        self._said: Dict[Tuple[int, ...], Tuple[int, int]] = {}
+        self._bits_at: Dict[Tuple[int, ...], Tuple[int, int]] = {}
         self._read(re.findall("[^ \t\r\n]+", text))
 
     def _read(self, tokens: List[Token]) -> None:
@@ -148,11 +148,11 @@ class Program:
     def at(self, seen: Mapping[str, int]) -> Tuple[int, int]:
         """The new bits of a cell, lower and upper, for the bits that it sees under its names."""
         sight = (seen["CENTER"], seen["CENTER'"], *(seen[name] for name in self.names))
-        if sight not in self._said:
+        if sight not in self._bits_at:
             written = [seen["CENTER"], seen["CENTER'"]]
             self._do(self.definitions[self.last], [], seen, written)
-            self._said[sight] = written[0], written[1]
-        return self._said[sight]
+            self._bits_at[sight] = written[0], written[1]
+        return self._bits_at[sight]
 
     def _do(self, body: Body, stack: List[int], seen: Mapping[str, int], written: List[int]) -> None:
         """Executes a body on the stack. `written` gets the new bits."""
