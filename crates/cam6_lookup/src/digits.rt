@@ -13,7 +13,7 @@ pub(crate) enum Digit {
 }
 
 impl Digit {
-    /// How far apart two rows or two positions are that differ in this digit alone: 1, 2, 4 or 8.
+    /// Returns the value of this binary digit: 1, 2, 4 or 8.
     #[inline(always)]
     pub(crate) fn worth(self) -> usize
         ensures value { result ≡ worth self }
@@ -28,7 +28,7 @@ impl Digit {
         }
     }
 
-    /// Returns a word with 1 at each position whose number has 0 as this digit.
+    /// Returns a word with 1 at each position whose number has 0 as this binary digit.
     #[inline(always)]
     fn zeros(self) -> u64
         ensures { (p : ℕ) → p < 64 → bit_at result p ≡ 1 - digit_of self p }
@@ -41,7 +41,7 @@ impl Digit {
         }
     }
 
-    /// Returns a word with 1 at each position whose number has 1 as this digit.
+    /// Returns a word with 1 at each position whose number has 1 as this binary digit.
     #[inline(always)]
     fn ones(self) -> u64
         ensures { (p : ℕ) → p < 64 → bit_at result p ≡ digit_of self p }

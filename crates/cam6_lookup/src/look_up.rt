@@ -13,8 +13,8 @@ use crate::swap::{Sixteen, shown_addresses};
 use cam6_planes::{Row, Side, WORDS};
 use cam6_wiring::{LINES, Lines};
 
-/// Writes two rows: at each column the lowest bit, and the next, of the entry at the address that
-/// the lines show there. Words past the side may hold anything.
+/// Writes two rows. At each column, `lower` gets the lowest bit, and `upper` the next, of the entry
+/// at the address that the lines show there. Words past the side may hold anything.
 pub fn look_up_rows(lower: &mut Row, upper: &mut Row, lines: &Lines, side: Side, entries: &[u8])
     requires { length entries.now ≡ 2 ^ LINES }
     ensures lower { (x : ℕ) → x < side_number side →
@@ -29,8 +29,9 @@ pub fn look_up_rows(lower: &mut Row, upper: &mut Row, lines: &Lines, side: Side,
     look_up_words::<WORDS>(lower, upper, &rows, side.number() / 64, entries);
 }
 
-/// Writes the first `count` words of two planes: at each column the lowest bit, and the next, of
-/// the entry at the address that the lines show there. Words past these may hold anything.
+/// Writes the first `count` words of two planes. At each column, `lower` gets the lowest bit, and
+/// `upper` the next, of the entry at the address that the lines show there. Words past these may
+/// hold anything.
 pub fn look_up_words<const N: usize>(
     lower: &mut [u64; N],
     upper: &mut [u64; N],
@@ -57,8 +58,8 @@ pub fn look_up_words<const N: usize>(
     }
 }
 
-/// Returns word i of the lower plane, and that of the upper one. Each position has the bit of the
-/// entry at the address that is shown there.
+/// Returns word `i` of the lower plane, and of the upper one. Each position has the bit of the
+/// entry at the address that `rows` has for this position.
 fn words(rows: &Sixteen, i: usize, entries: &[u8]) -> (u64, u64)
     requires word { i < 2 }
     requires entries { length entries.now ≡ 2 ^ LINES }
@@ -80,8 +81,8 @@ fn words(rows: &Sixteen, i: usize, entries: &[u8]) -> (u64, u64)
 /// The first position of each lane.
 const FIRST_POSITIONS: u64 = 0x0001_0001_0001_0001;
 
-/// Moves the bits of each lane one position further, and puts the first bit of `four`'s lane in.
-/// The last bit of each lane has to be 0, or it falls into the next lane.
+/// Moves the bits of each lane of sixteen bits one position up. The first bit of the lane becomes
+/// that of `four`. The last bit of each lane has to be 0, or it falls into the next lane.
 fn one_more(word: u64, four: u64) -> u64
     ensures first { (p : ℕ) → p < 64 → p % 16 ≡ 0 → (0 < p → bit_at word (p - 1) ≡ 0) →
         bit_at result p ≡ bit_at four p }
@@ -90,7 +91,8 @@ fn one_more(word: u64, four: u64) -> u64
     word << 1 | four & FIRST_POSITIONS
 }
 
-/// The entries at the addresses in the four lanes of word i of row k, each in its lane.
+/// Returns four entries, each in a lane of sixteen bits. They are those at the addresses in the
+/// four lanes of word `i` of row `k`.
 fn four_entries(rows: &Sixteen, k: usize, i: usize, entries: &[u8]) -> u64
     requires row { k < 16 }
     requires word { i < 2 }
@@ -107,7 +109,7 @@ fn four_entries(rows: &Sixteen, k: usize, i: usize, entries: &[u8]) -> u64
     )
 }
 
-/// Four bytes, each in a lane of sixteen bits.
+/// Returns a word with these four bytes, each in a lane of sixteen bits. `a` has the lowest lane.
 fn in_lanes(a: u8, b: u8, c: u8, d: u8) -> u64
     ensures first { (r : ℕ) → r < 16 → bit_at result r ≡ bit_at a r }
     ensures second { (r : ℕ) → r < 16 → bit_at result (16 + r) ≡ bit_at b r }

@@ -12,8 +12,8 @@ pub(crate) type Pair = [u64; 2];
 /// Sixteen rows of two words.
 pub(crate) type Sixteen = [Pair; 16];
 
-/// Returns the addresses of 128 columns of the lines, from a word on. In its lane l of sixteen
-/// bits, row k has the address of position 16 l + k of each word.
+/// Returns the addresses of the 128 columns in words `word` and `word + 1` of the lines. In its
+/// lane l of sixteen bits, row k has the address of position 16 l + k of each word.
 pub(crate) fn shown_addresses<const N: usize>(lines: &[&[u64; N]; LINES], word: usize) -> Sixteen
     requires { word + 2 ≤ N }
     ensures { ShowAddresses result (map (λ line. line.now) lines.now) word }
@@ -21,7 +21,8 @@ pub(crate) fn shown_addresses<const N: usize>(lines: &[&[u64; N]; LINES], word: 
     transposed(&sixteen::<N>(lines, word))
 }
 
-/// The rows transposed over their diagonal, in each lane of sixteen bits.
+/// Returns the rows transposed, in each lane of sixteen bits: bit k of row r becomes bit r of row
+/// k.
 fn transposed(rows: &Sixteen) -> Sixteen
     ensures { (k i p : ℕ) → k < 16 → i < 2 → p < 64 →
         cell result k i p ≡ cell rows.now (p % 16) i (p / 16 * 16 + k) }
@@ -32,8 +33,8 @@ fn transposed(rows: &Sixteen) -> Sixteen
     round(&rows, Digit::One)
 }
 
-/// Returns the rows after one round of the transposition. Each bit's row number and position have
-/// swapped this digit.
+/// Returns the rows after one round of the transposition. Each bit moves to the row and position
+/// whose numbers have exchanged this binary digit.
 #[inline(always)]
 fn round(rows: &Sixteen, digit: Digit) -> Sixteen
     ensures { (k i p : ℕ) → k < 16 → i < 2 → p < 64 →
@@ -59,7 +60,7 @@ fn round(rows: &Sixteen, digit: Digit) -> Sixteen
     ]
 }
 
-/// Row k after the round.
+/// Returns row `k` after the round of this digit.
 #[inline]
 fn row_after_round(rows: &Sixteen, k: usize, digit: Digit) -> Pair
     requires { k < 16 }
@@ -78,7 +79,8 @@ fn row_after_round(rows: &Sixteen, k: usize, digit: Digit) -> Pair
     }
 }
 
-/// Two words of each of the lines, from a word on, and four rows of zeros.
+/// Returns words `word` and `word + 1` of each of the twelve lines, and four rows of zeros after
+/// them.
 fn sixteen<const N: usize>(lines: &[&[u64; N]; LINES], word: usize) -> Sixteen
     requires { word + 2 ≤ N }
     ensures { (k i p : ℕ) → k < 12 → i < 2 →
@@ -105,7 +107,7 @@ fn sixteen<const N: usize>(lines: &[&[u64; N]; LINES], word: usize) -> Sixteen
     ]
 }
 
-/// Two words of a line, from this one on.
+/// Returns words `word` and `word + 1` of a line.
 fn pair<const N: usize>(line: &[u64; N], word: usize) -> Pair
     requires { word + 2 ≤ N }
     ensures { (i : ℕ) → i < 2 → slice_index result i ≡ slice_index line.now (word + i) }

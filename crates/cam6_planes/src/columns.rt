@@ -11,7 +11,7 @@ pub fn chosen_word(mask: u64, unset: u64, set: u64) -> u64
     mask & set | !mask & unset
 }
 
-/// The same bit in every column.
+/// Returns the word that has this bit in all its 64 columns.
 #[inline]
 pub fn word_of(bit: bool) -> u64
     ensures { (c : ℕ) → c < 64 → word_column result c ≡ bit }

@@ -28,7 +28,8 @@ impl Model for Bits {
 }
 
 impl Bits {
-    /// The bytes of the row, one for each eight columns of its side.
+    /// Lends the bytes of the row, one for each eight columns of its side. The first byte has
+    /// columns 0 to 7.
     pub fn as_slice(&self) -> &[u8]
         ensures { result.now ≡ self.now }
     {
@@ -36,8 +37,8 @@ impl Bits {
     }
 }
 
-/// Returns the bits of hexadecimal digits of either case. Returns `None` if a row of none of the
-/// three sides has so many digits, or if one of them is not a digit.
+/// Returns the row that hexadecimal digits of either case stand for. Returns `None` if a row of
+/// none of the three sides has so many digits, or if one of them is not a digit.
 pub fn bits_of_digits(digits: &[u8]) -> Option<Bits>
     ensures { result ≡ bits_of_digits digits.now }
 {
@@ -47,7 +48,7 @@ pub fn bits_of_digits(digits: &[u8]) -> Option<Bits>
     Some(Bits { side, bytes })
 }
 
-/// Returns the side with `count` digits in a row, or `None`.
+/// Returns the side whose rows have `count` hexadecimal digits, or `None` if there is none.
 fn side_of_digits(count: usize) -> Option<Side>
     ensures { result ≡ side_of (4 * count) }
 {
@@ -68,7 +69,7 @@ pub(crate) fn write_hex(row: &Row, text: &mut [u8])
     hex::encode_to_slice(&bytes[..text.len() / 2], text).unwrap();
 }
 
-/// The bits of the row, as many as a row of this side has.
+/// Returns the row's bits in the columns of this side.
 pub(crate) fn bits_of_row(row: &Row, side: Side) -> Bits
     ensures { result ≡ row_bytes (side_number side / 8) (column_bit row.now) }
 {
@@ -78,7 +79,7 @@ pub(crate) fn bits_of_row(row: &Row, side: Side) -> Bits
     }
 }
 
-/// The bytes of the row. The first has columns 0 to 7.
+/// Returns all bytes of the row, also those past its side. The first byte has columns 0 to 7.
 fn bytes_of_row(row: &Row) -> [u8; BYTES]
     ensures { (x : ℕ) → x < 8 * BYTES → byte_column result x ≡ column_bit row.now x }
 {
@@ -89,7 +90,7 @@ fn bytes_of_row(row: &Row) -> [u8; BYTES]
     bytes
 }
 
-/// The byte of columns 8k to 8k + 7 of the word.
+/// Returns the byte of columns 8k to 8k + 7 of the word. Its highest bit is column 8k.
 fn byte_of_word(word: u64, k: usize) -> u8
     requires { k < 8 }
     ensures { (c : ℕ) → c < 8 → (bit_at result (7 - c) == 1) ≡ word_column word (8 * k + c) }

@@ -2,22 +2,22 @@
 ghost use Rattle.cam6_planes.specs.Laws.{DigitsAreReadBack, BytesShowTheRow, NoOthersShowIt};
 ghost use Rattle.cam6_planes.specs.Laws.{BytesHaveItsDigits};
 
-/// Reading the digits of a row gives back the row's bits.
+/// Reading the hexadecimal digits of a row gives back the row's bits.
 pub fn digits_are_read_back()
     ensures law { DigitsAreReadBack }
 {}
 
-/// The bytes that are made of a row show it, column by column.
+/// The bytes that are made from a row have the row's bit at each column.
 pub fn a_rows_bytes_show_it()
     ensures law { BytesShowTheRow }
 {}
 
-/// Bytes that show a row are those that are made of it.
+/// Bytes that have a row's bit at each column are the bytes that are made from the row.
 pub fn no_other_bytes_show_a_row()
     ensures law { NoOthersShowIt }
 {}
 
-/// The digits of a row's bytes are the row's digits.
+/// The bytes that are made from a row have the same hexadecimal digits as the row.
 pub fn a_rows_bytes_have_its_digits()
     ensures law { BytesHaveItsDigits }
 {}

@@ -98,7 +98,7 @@ impl Planes {
         is_set(&plane_row(&self.rows[y], p), x)
     }
 
-    /// Row `y` of plane `p`, in words; those past the side are 0.
+    /// Returns row `y` of plane `p`, 64 columns to a word. Words past the side are 0.
     pub fn row_words(&self, p: usize, y: usize) -> Row
         requires plane { p < 4 }
         requires row { y < width self.now }
@@ -122,8 +122,8 @@ impl Planes {
         &self.rows[y]
     }
 
-    /// Writes row `y` of plane `p` as lower case hexadecimal digits, and returns how many. What is
-    /// past these digits stays as it was.
+    /// Writes row `y` of plane `p` to `text` as lower case hexadecimal digits, and returns how many
+    /// digits it wrote. The rest of `text` stays as it was.
     pub fn row_hex(&self, p: usize, y: usize, text: &mut [u8; DIGITS]) -> usize
         requires plane { p < 4 }
         requires row { y < width self.now }
@@ -138,7 +138,7 @@ impl Planes {
         digits
     }
 
-    /// The bits of row `y` of plane `p`.
+    /// Returns the bits of row `y` of plane `p`, as many as the side has columns.
     pub fn row_bits(&self, p: usize, y: usize) -> Bits
         requires plane { p < 4 }
         requires row { y < width self.now }
@@ -147,7 +147,7 @@ impl Planes {
         bits_of_row(&self.row_words(p, y), self.side)
     }
 
-    /// Writes row `y` of plane `p` from words; those past the side don't count.
+    /// Replaces row `y` of plane `p`. Words past the side are ignored.
     pub fn set_row_words(&mut self, p: usize, y: usize, words: Row)
         requires plane { p < 4 }
         requires row { y < width self.old }
@@ -159,7 +159,7 @@ impl Planes {
         set_plane_row(&mut self.rows[y], p, words);
     }
 
-    /// Writes row `y` of plane `p` from bytes. The first byte has columns 0 to 7.
+    /// Replaces row `y` of plane `p` by the bits of these bytes. The first byte has columns 0 to 7.
     pub fn put_row(&mut self, p: usize, y: usize, bits: &[u8])
         requires plane { p < 4 }
         requires row { y < width self.old }
@@ -183,7 +183,7 @@ impl Planes {
         clear_rows(&mut self.rows, p);
     }
 
-    /// Copies the cells and the side of other planes. The limit stays.
+    /// Copies the cells and the side of other planes. The limit stays as it was.
     pub fn copy_from(&mut self, other: &Planes)
         requires { width other.now ≤ side_number self.old.limit }
         ensures cells { cells self.new ≡ cells other.now }
@@ -195,7 +195,7 @@ impl Planes {
     }
 }
 
-/// Copies the first `count` rows.
+/// Copies the first `count` rows of `from` to `to`.
 fn copy_rows(to: &mut [CellRow], from: &[CellRow], count: usize)
     requires to { count ≤ length to.old }
     requires from { count ≤ length from.now }
@@ -228,7 +228,7 @@ fn clear_rows(rows: &mut [CellRow], p: usize)
     }
 }
 
-/// The words of plane `p`, out of a stored row of all four planes.
+/// Returns the words of plane `p` in a stored row of all four planes.
 fn plane_row(rows: &CellRow, p: usize) -> Row
     requires { p < 4 }
     ensures { result ≡ slice_index_or rows.now p [] }

@@ -51,7 +51,8 @@ pub fn east(row: &Row, side: Side) -> Row
     shifted
 }
 
-/// As `west`, but writes to `shifted`. Its words past the side stay as they are.
+/// Writes to `shifted`, at each column, the bit that `row` has in the column to the west. West of
+/// column 0 is the last column. The words of `shifted` past the side stay as they are.
 pub fn put_west(shifted: &mut Row, row: &Row, side: Side)
     ensures value { let s = side_number side in
         (x : ℕ) → x < s → column_bit shifted.new x ≡ column_bit row.now (west_of s x) }
@@ -65,7 +66,8 @@ pub fn put_west(shifted: &mut Row, row: &Row, side: Side)
     }
 }
 
-/// As `east`, but writes to `shifted`. Its words past the side stay as they are.
+/// Writes to `shifted`, at each column, the bit that `row` has in the column to the east. East of
+/// the last column is column 0. The words of `shifted` past the side stay as they are.
 pub fn put_east(shifted: &mut Row, row: &Row, side: Side)
     ensures value { let s = side_number side in
         (x : ℕ) → x < s → column_bit shifted.new x ≡ column_bit row.now (east_of s x) }
@@ -79,7 +81,8 @@ pub fn put_east(shifted: &mut Row, row: &Row, side: Side)
     shifted[last] = moved_west(row[last], row[0]);
 }
 
-/// Moves the word's columns one further east. The last column of `before` becomes its first.
+/// Returns the word with each bit moved to the next column east. The first column gets the last bit
+/// of `before`, and the word's own last bit is dropped.
 #[inline]
 pub fn moved_east(word: u64, before: u64) -> u64
     ensures first { word_column result 0 ≡ word_column before 63 }
@@ -88,7 +91,8 @@ pub fn moved_east(word: u64, before: u64) -> u64
     word >> 1 | before << 63
 }
 
-/// Moves the word's columns one further west. The first column of `after` becomes its last.
+/// Returns the word with each bit moved to the next column west. The last column gets the first bit
+/// of `after`, and the word's own first bit is dropped.
 #[inline]
 pub fn moved_west(word: u64, after: u64) -> u64
     ensures others { (c : ℕ) → c < 63 → word_column result c ≡ word_column word (c + 1) }
@@ -97,7 +101,7 @@ pub fn moved_west(word: u64, after: u64) -> u64
     word << 1 | after >> 63
 }
 
-/// The bit at column `x`.
+/// Whether the row has 1 at column `x`.
 pub(crate) fn is_set(row: &Row, x: usize) -> bool
     requires { x < 64 * WORDS }
     ensures { result ≡ column_bit row.now x }
@@ -105,7 +109,8 @@ pub(crate) fn is_set(row: &Row, x: usize) -> bool
     row[x / 64] >> (63 - x % 64) & 1 == 1
 }
 
-/// The row of the bytes of `words` words. The first byte has columns 0 to 7.
+/// Returns the row whose first `words` words have these bytes, eight to a word. The first byte has
+/// columns 0 to 7. The other words are 0.
 pub(crate) fn row_of_bytes(bytes: &[u8], words: usize) -> Row
     requires bytes { length bytes.now ≡ 8 * words }
     requires room { words ≤ WORDS }
@@ -118,7 +123,7 @@ pub(crate) fn row_of_bytes(bytes: &[u8], words: usize) -> Row
     row
 }
 
-/// The word of bytes 8i to 8i + 7.
+/// Returns the word whose 64 columns have bytes 8i to 8i + 7. The first of them has columns 0 to 7.
 fn word_of_bytes(bytes: &[u8], i: usize) -> u64
     requires { 8 * i + 8 ≤ length bytes.now }
     ensures { (c : ℕ) → c < 64 → word_column result c ≡ byte_column bytes.now (64 * i + c) }

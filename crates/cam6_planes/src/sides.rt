@@ -18,7 +18,7 @@ pub enum Side {
 }
 
 impl Side {
-    /// How many columns and rows.
+    /// The number of columns, and of rows: 128, 256 or 512.
     pub fn number(self) -> usize
         ensures value { result ≡ side_number self }
         ensures whole_words { result % 128 ≡ 0 }
@@ -45,7 +45,7 @@ impl Side {
         }
     }
 
-    /// Its number as a text.
+    /// The number of columns as a decimal text, such as `128`.
     pub fn text(self) -> &'static str
         ensures text { result.now ≡ side_text self }
         ensures number { result.now ≡ decimal (side_number self) }
@@ -57,7 +57,7 @@ impl Side {
         }
     }
 
-    /// The numbers of all sides as texts, from the smallest on.
+    /// The texts of all sides, from the smallest side on: `128`, `256` and `512`.
     pub fn texts() -> &'static [&'static str]
         ensures { map (λ text. text.now) result.now ≡ side_texts }
     {
@@ -78,7 +78,7 @@ impl Side {
         }
     }
 
-    /// How many words of 64 columns a row has.
+    /// How many words a row has, with 64 columns to a word.
     pub fn words(self) -> usize
         ensures value { 64 * result ≡ side_number self }
         ensures some { 2 ≤ result }

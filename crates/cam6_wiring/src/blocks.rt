@@ -21,7 +21,7 @@ pub enum Corner {
     LowerLeft,
 }
 
-/// The corner of its block in which the cell at column `x` of row `y` lies.
+/// Returns the corner of its block in which the cell at column `x` of row `y` lies.
 pub fn corner_of(grid: Grid, x: usize, y: usize) -> Corner
     ensures { result ≡ corner_of grid x y }
 {
@@ -33,7 +33,8 @@ pub fn corner_of(grid: Grid, x: usize, y: usize) -> Corner
     }
 }
 
-/// Where the block's cell at this rotation lies, seen from a corner.
+/// Returns the direction from the cell at this corner of a block to the block's cell at this
+/// rotation.
 pub fn in_block(corner: Corner, rotation: Rotation) -> Compass
     ensures { result ≡ in_block corner rotation }
 {
@@ -53,8 +54,8 @@ pub fn in_block(corner: Corner, rotation: Rotation) -> Compass
     }
 }
 
-/// Returns 0 for a block's left column and 1 for its right one. For a row, returns 0 for the upper
-/// one and 1 for the lower.
+/// Returns 0 if column `x` is the left one of its blocks, and 1 if it is the right one. If `x` is a
+/// row, returns 0 for the upper row of its blocks and 1 for the lower.
 #[inline]
 pub fn side_in_block(grid: Grid, x: usize) -> usize
     ensures { result ≡ side_in_block grid x }

@@ -14,14 +14,14 @@ const EVEN_COLUMNS: u64 = 0xAAAA_AAAA_AAAA_AAAA;
 /// The odd columns of a word.
 const ODD_COLUMNS: u64 = 0x5555_5555_5555_5555;
 
-/// The same bit in every column.
+/// Returns the row that has this bit in every column.
 pub(crate) fn row_of(bit: bool) -> Row
     ensures { (x : ℕ) → x < 64 * WORDS → column_bit result x ≡ bit }
 {
     if bit { [u64::MAX; WORDS] } else { [0; WORDS] }
 }
 
-/// Returns 1 in the right columns of the grid's blocks, and 0 in the left ones.
+/// Returns a row with 1 in the right columns of the grid's blocks, and 0 in the left ones.
 pub(crate) fn right_columns(grid: Grid) -> Row
     ensures { (x : ℕ) → x < 64 * WORDS → column_bit result x ≡ (side_in_block grid x == 1) }
 {
@@ -41,7 +41,7 @@ pub(crate) fn put_odd_columns(row: &mut Row, odd: &Row)
     }
 }
 
-/// The even columns of one word, and the odd ones of another.
+/// Returns the word with the even columns of `even` and the odd columns of `odd`.
 #[tactic(auto, using(crate::proofs::MixedColumns::mixed_column))]
 fn mixed_word(even: u64, odd: u64) -> u64
     ensures { (c : ℕ) → c < 64 → word_column result c

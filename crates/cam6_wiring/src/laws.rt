@@ -4,39 +4,39 @@ ghost use Rattle.cam6_wiring.specs.Laws.{ShowsWhatIsSeen, ShowsNothingElse};
 ghost use Rattle.cam6_wiring.specs.Laws.{LinesAreNamed, IsItselfAlone, RotationsInTheBlock};
 ghost use Rattle.cam6_wiring.specs.Laws.{WiringsAreThemselves, TextsNameWhatTheyAreOf};
 
-/// The address of what is seen shows, on the line of each name, what is seen under the name.
+/// If a line has a name, the address has there the bit that the cell sees under this name.
 pub fn an_address_shows_what_is_seen()
     ensures law { ShowsWhatIsSeen }
 {}
 
-/// The address of what is seen shows 0 on each line without a name.
+/// If a line has no name, the address has 0 there.
 pub fn an_address_shows_nothing_else()
     ensures law { ShowsNothingElse }
 {}
 
-/// The line of a name and the names of the lines agree.
+/// `line_of` returns a line for a name exactly if `names_of` has this name at the line.
 pub fn lines_are_named()
     ensures law { LinesAreNamed }
 {}
 
-/// A name is the same as itself, and as no other.
+/// The comparison of two names is true exactly if they are one name.
 pub fn a_name_is_itself_alone()
     ensures law { IsItselfAlone }
 {}
 
-/// A wiring is the same as itself, and as no other.
+/// The comparison of two wirings is true exactly if they are one wiring.
 pub fn wirings_are_themselves()
     ensures law { WiringsAreThemselves }
 {}
 
-/// Each text of a half, a neighbourhood, a minor assignment or a grid names what it is the text of,
-/// and no other text does.
+/// The text of a half, a neighbourhood, a minor assignment or a grid is read as just that one. No
+/// other text is read as it.
 pub fn texts_name_what_they_are_of()
     ensures law { TextsNameWhatTheyAreOf }
 {}
 
-/// Each rotation leads to a cell of the same block. That cell is one, two or three corners further
-/// clockwise.
+/// Under each rotation a cell sees a cell of its own block. That cell lies one, two or three
+/// corners further clockwise.
 pub fn rotations_stay_in_the_block()
     ensures law { RotationsInTheBlock }
 {}

@@ -45,7 +45,9 @@ pub fn lines_of_row(
     lines
 }
 
-/// As `lines_of_row`, but writes to `lines`.
+/// Writes the twelve address lines of row `y` to `lines`. At each column they show what the cell
+/// there sees under the lines' names, and 0 on a line without a name. Words past the side may hold
+/// anything.
 pub fn put_lines(
     lines: &mut Lines,
     setting: Setting,
@@ -68,7 +70,8 @@ pub fn put_lines(
     }
 }
 
-/// Writes what the cells of row `y` show on a line with this name. Writes 0 without a name.
+/// Writes one address line of row `y`: at each column what the cell there sees under the line's
+/// name. Without a name every column is 0.
 fn put_line(line: &mut Row, setting: Setting, name: Option<Name>, y: usize, rows: &Rows)
     requires { y < side_number rows.now.side }
     ensures { (f : Cells) → AreRowsAround f y rows.now →

@@ -69,7 +69,7 @@ pub enum Name {
 }
 
 impl Half {
-    /// The number of the half's plane at this level.
+    /// Returns the number of the half's plane at this level, from 0 to 3.
     pub fn plane(self, level: Level) -> usize
         ensures number { result ≡ plane_of self level }
         ensures plane { result < 4 }
@@ -82,7 +82,7 @@ impl Half {
         }
     }
 
-    /// The half with the two other planes.
+    /// Returns the other half, which has the two other planes.
     pub fn other(self) -> Half
         ensures { result ≡ other_half self }
     {
@@ -106,7 +106,7 @@ impl Phase {
         }
     }
 
-    /// The low bit of the phase at the lower level, and the high bit at the upper one.
+    /// Returns the low bit of the phase at the lower level, and its high bit at the upper level.
     pub fn bit(self, level: Level) -> bool
         ensures { result ≡ phase_bit self level }
     {

@@ -21,8 +21,8 @@ pub struct Setting {
     pub phase: Phase,
 }
 
-/// Returns the number that the cell at column `x` of row `y` shows on its twelve address lines.
-/// Line 0 is its lowest bit. A line without a name shows 0.
+/// Returns the table address of the cell at column `x` of row `y`. Bit k of it is what the cell
+/// sees under the name of line k, and 0 if the line has no name.
 pub fn address_at(
     planes: &Planes,
     half: Half,
@@ -49,7 +49,8 @@ pub fn address_at(
     address
 }
 
-/// The bit that a cell sees under a line's name. It is 0 for a line without a name.
+/// Returns the bit, 0 or 1, that the cell at column `x` of row `y` sees under a line's name.
+/// Returns 0 for a line without a name.
 fn line_bit(planes: &Planes, setting: Setting, line: Option<Name>, x: usize, y: usize) -> u16
     requires column { x < width planes.now }
     requires row { y < width planes.now }
@@ -63,7 +64,7 @@ fn line_bit(planes: &Planes, setting: Setting, line: Option<Name>, x: usize, y: 
     }
 }
 
-/// The bit that a name means to the cell at column `x` of row `y`.
+/// Returns the bit that the cell at column `x` of row `y` sees under a name.
 pub fn seen(planes: &Planes, setting: Setting, name: Name, x: usize, y: usize) -> bool
     requires column { x < width planes.now }
     requires row { y < width planes.now }
@@ -89,8 +90,8 @@ pub fn seen(planes: &Planes, setting: Setting, name: Name, x: usize, y: usize) -
     }
 }
 
-/// The bit of plane `p` in the cell that lies in this direction. At the centre it is the cell's
-/// own.
+/// Returns the bit of plane `p` in the cell that lies in this direction from column `x` of row `y`.
+/// At the centre it is the bit of that cell itself.
 fn seen_beside(planes: &Planes, compass: Compass, p: usize, x: usize, y: usize) -> bool
     requires plane { p < 4 }
     requires column { x < width planes.now }
@@ -105,7 +106,7 @@ fn seen_beside(planes: &Planes, compass: Compass, p: usize, x: usize, y: usize) 
     )
 }
 
-/// The column that lies in this direction from column `x`, round the torus.
+/// Returns the column that lies in this direction from column `x`, round the torus.
 fn column_beside(side: Side, compass: Compass, x: usize) -> usize
     requires { x < side_number side }
     ensures column { result ≡ column_beside (side_number side) compass x }
@@ -118,8 +119,8 @@ fn column_beside(side: Side, compass: Compass, x: usize) -> usize
     }
 }
 
-/// The row that lies in this direction from row `y`, round the torus. North is the row before, as
-/// west is the column before.
+/// Returns the row that lies in this direction from row `y`, round the torus. North is the row
+/// before.
 fn row_beside(side: Side, compass: Compass, y: usize) -> usize
     requires { y < side_number side }
     ensures row { result ≡ row_beside (side_number side) compass y }
@@ -150,7 +151,8 @@ pub(crate) fn east_of(side: Side, x: usize) -> usize
     if x + 1 == side.number() { 0 } else { x + 1 }
 }
 
-/// The bit of plane `p` that the cell sees in its block.
+/// Returns the bit of plane `p` in the cell at this rotation from the cell at column `x` of row
+/// `y`, in their common block.
 fn seen_in_block(
     planes: &Planes,
     grid: Grid,

@@ -25,7 +25,7 @@ pub struct Rows<'a> {
 }
 
 impl<'a> Rows<'a> {
-    /// Row `y` of the planes, with the rows to its north and to its south.
+    /// Lends row `y` of the planes, with the rows to its north and to its south, round the torus.
     pub fn around(planes: &'a Planes, y: usize) -> Rows<'a>
         requires { y < width planes.now }
         ensures rows { AreRowsAround (cells planes.now) y result }
@@ -41,7 +41,7 @@ impl<'a> Rows<'a> {
     }
 }
 
-/// Writes what the cells of row `y` see under a name.
+/// Writes to `line`, at each column of row `y`, the bit that the cell there sees under a name.
 pub(crate) fn put_seen(line: &mut Row, setting: Setting, name: Name, y: usize, rows: &Rows)
     requires { y < side_number rows.now.side }
     ensures { (f : Cells) → AreRowsAround f y rows.now →
@@ -68,8 +68,9 @@ pub(crate) fn put_seen(line: &mut Row, setting: Setting, name: Name, y: usize, r
     }
 }
 
-/// Writes what the cells of row `y` see of plane `p` in their blocks. Those of even columns are at
-/// one corner of their block, and those of odd columns at another.
+/// Writes to `line`, at each column of row `y`, the bit of plane `p` in the block's cell at this
+/// rotation. Cells of even columns are at one corner of their block, and those of odd columns at
+/// another.
 fn put_in_block(line: &mut Row, grid: Grid, rotation: Rotation, p: usize, y: usize, rows: &Rows)
     requires plane { p < 4 }
     requires row { y < side_number rows.now.side }
@@ -83,8 +84,8 @@ fn put_in_block(line: &mut Row, grid: Grid, rotation: Rotation, p: usize, y: usi
     put_odd_columns(line, &odd);
 }
 
-/// Writes the bits of plane `p` in the cells that lie in this direction from those of the middle
-/// row.
+/// Writes to `line`, at each column, the bit of plane `p` in the cell that lies in this direction
+/// from the middle row's cell.
 fn put_beside(line: &mut Row, compass: Compass, p: usize, rows: &Rows)
     requires plane { p < 4 }
     ensures { (f : Cells) (y : ℕ) → AreRowsAround f y rows.now → y < side_number rows.now.side →
@@ -95,7 +96,8 @@ fn put_beside(line: &mut Row, compass: Compass, p: usize, rows: &Rows)
     put_columns_beside(line, compass, row, rows.side);
 }
 
-/// Writes, at each column, the row's bit in the column that lies in this direction.
+/// Writes to `line`, at each column, the bit that `row` has in the column to the west or east. If
+/// the direction has neither, copies `row`.
 fn put_columns_beside(line: &mut Row, compass: Compass, row: &Row, side: Side)
     ensures { let s = side_number side in
         (x : ℕ) → x < s → column_bit line.new x ≡ column_bit row.now (column_beside s compass x) }
@@ -107,7 +109,8 @@ fn put_columns_beside(line: &mut Row, compass: Compass, row: &Row, side: Side)
     }
 }
 
-/// Returns the row that lies in this direction from the row in the middle.
+/// Returns the row to the north or south of the middle row, or the middle row itself if the
+/// direction has neither.
 fn row_beside<'a>(rows: &Rows<'a>, compass: Compass) -> &'a CellRow
     ensures { (f : Cells) (y : ℕ) → AreRowsAround f y rows.now →
         let s = side_number rows.now.side in IsRow s f (row_beside s compass y) result.now }

@@ -18,7 +18,7 @@ impl Half {
         }
     }
 
-    /// Returns the half that a text names, or `None`.
+    /// Returns the half that has this text, or `None` if there is none.
     pub fn named(text: &str) -> Option<Half>
         ensures { result ≡ half_named text.now }
     {
@@ -47,7 +47,7 @@ impl Hood {
         }
     }
 
-    /// Returns the neighbourhood that a text names, or `None`.
+    /// Returns the neighbourhood that has this text, or `None` if there is none.
     pub fn named(text: &str) -> Option<Hood>
         ensures { result ≡ hood_named text.now }
     {
@@ -77,7 +77,7 @@ impl Minor {
         }
     }
 
-    /// Returns the minor assignment that a text names, or `None`.
+    /// Returns the minor assignment that has this text, or `None` if there is none.
     pub fn named(text: &str) -> Option<Minor>
         ensures { result ≡ minor_named text.now }
     {
@@ -104,7 +104,7 @@ impl Grid {
         }
     }
 
-    /// Returns the grid that a text names, or `None`.
+    /// Returns the grid that has this text, or `None` if there is none.
     pub fn named(text: &str) -> Option<Grid>
         ensures { result ≡ grid_named text.now }
     {

@@ -69,7 +69,7 @@ pub fn line_of(hood: Hood, minor: Minor, name: Name) -> Option<u8>
     None
 }
 
-/// Whether a line has this name. A line without a name doesn't have it.
+/// Whether `known`, the name of a line, is this name. Returns false for a line without a name.
 fn is_at(name: Name, known: Option<Name>) -> bool
     ensures { result ≡ is_at name known }
 {
@@ -88,21 +88,23 @@ pub fn names_of(hood: Hood, minor: Minor) -> [Option<Name>; LINES]
     [n0, n1, n2, n3, n4, n5, n6, n7, n8, n9, n10, n11]
 }
 
-/// The name of the lower bit of a cell beside the centre, or of the centre.
+/// Returns the name of the lower bit of the cell in this direction, or of the cell itself at the
+/// centre. It is never `None`.
 fn lower(compass: Compass) -> Option<Name>
     ensures { result ≡ lower compass }
 {
     Some(Name::Beside(compass, Level::Lower))
 }
 
-/// The name of the upper bit of a cell beside the centre, or of the centre.
+/// Returns the name of the upper bit of the cell in this direction, or of the cell itself at the
+/// centre. It is never `None`.
 fn upper(compass: Compass) -> Option<Name>
     ensures { result ≡ upper compass }
 {
     Some(Name::Beside(compass, Level::Upper))
 }
 
-/// The names of lines 0 to 9. Only lines 8 and 9 may have none.
+/// Returns the names of lines 0 to 9. Only lines 8 and 9 may have none.
 fn hood_names(hood: Hood) -> [Option<Name>; 10]
     ensures { result ≡ hood_names hood }
 {
@@ -140,7 +142,8 @@ fn hood_names(hood: Hood) -> [Option<Name>; 10]
     }
 }
 
-/// The names of lines 0 to 9 of a Margolus hood, with these names on lines 8 and 9.
+/// Returns the names of lines 0 to 9 of a Margolus neighbourhood. `last` has those of lines 8 and
+/// 9.
 fn block_names(last: [Option<Name>; 2]) -> [Option<Name>; 10]
     ensures { result ≡ block_names last }
 {
@@ -159,7 +162,7 @@ fn block_names(last: [Option<Name>; 2]) -> [Option<Name>; 10]
     ]
 }
 
-/// The names of lines 10 and 11.
+/// Returns the names of lines 10 and 11.
 fn minor_names(minor: Minor) -> [Option<Name>; 2]
     ensures { result ≡ minor_names minor }
 {
