@@ -24,7 +24,7 @@ pub struct Band<'a> {
 }
 
 impl<'a> Band<'a> {
-    /// Row `r` of the band with the rows to its north and to its south.
+    /// Lends row `r` of the band, with the rows to its north and to its south.
     pub fn around(&self, r: usize) -> Rows<'a>
         requires within { IsWithin self.now }
         requires row { r < height }
@@ -40,8 +40,8 @@ impl<'a> Band<'a> {
         }
     }
 
-    /// The row above row `r` of the band, with `r` up to 17. Above row 0 is the row to the north of
-    /// the band, and above row 17 the row to its south.
+    /// Lends the row to the north of row `r` of the band, with `r` up to 17. For row 0 it is the
+    /// row to the north of the band, and for row 17 the row to its south.
     #[inline(always)]
     pub(crate) fn above(&self, r: usize) -> &'a CellRow
         requires within { IsWithin self.now }

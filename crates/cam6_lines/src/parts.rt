@@ -23,13 +23,13 @@ pub(crate) const PART: usize = 72;
 
 /// Eighteen rows of a unit's columns. The first is of the row to the north of a band, and the last
 /// of the row to its south.
-pub(crate) type Part = [u64; PART];
+pub(crate) type SeenRows = [u64; PART];
 
-/// Writes what the cells of the unit see under a name, in each row of the part that is made for
-/// the name. A row of the unit has `W` words, so loops over its words are compiled for as many.
+/// Writes to `part` what the cells in the unit's columns see under a name, in each row that is made
+/// for the name. A row of the unit has `W` words, so loops over its words are compiled for as many.
 #[inline(always)]
 pub(crate) fn put_part<const W: usize>(
-    part: &mut Part,
+    part: &mut SeenRows,
     side: Side,
     setting: &Setting,
     name: Name,
@@ -90,10 +90,11 @@ pub(crate) fn put_part<const W: usize>(
     }
 }
 
-/// As `put_part`, under any name. The functions below do the same for names that many lines have.
-/// Each has a loop of its own, so that no row asks anew where its cells look.
+/// Writes to `part` what the cells in the unit's columns see under a name, in each row that is made
+/// for the name. It is for any name. The functions below are for names that many lines have. Each
+/// has a loop of its own, so that no row asks anew where its cells look.
 fn put_rows<const W: usize>(
-    part: &mut Part,
+    part: &mut SeenRows,
     side: Side,
     setting: &Setting,
     name: Name,
@@ -112,9 +113,9 @@ fn put_rows<const W: usize>(
     }
 }
 
-/// Writes the bits of the unit's own cells in plane `p`.
+/// Writes to all eighteen rows of `part` the bits of the unit's own columns in plane `p`.
 #[inline(always)]
-fn put_here<const W: usize>(part: &mut Part, side: Side, p: usize, band: &Band, unit: usize)
+fn put_here<const W: usize>(part: &mut SeenRows, side: Side, p: usize, band: &Band, unit: usize)
     requires words { 64 * W ≡ columns band.now.planes.now.side }
     requires side { side ≡ band.now.planes.now.side }
     requires plane { p < 4 }
@@ -125,9 +126,10 @@ fn put_here<const W: usize>(part: &mut Part, side: Side, p: usize, band: &Band, 
     put_beside::<W>(part, side, Compass::Center, p, band, unit);
 }
 
-/// Writes what lies to the west of the cells in plane `p`.
+/// Writes to all eighteen rows of `part`, at each column of the unit, the bit of plane `p` in the
+/// column to the west.
 #[inline(always)]
-fn put_west<const W: usize>(part: &mut Part, side: Side, p: usize, band: &Band, unit: usize)
+fn put_west<const W: usize>(part: &mut SeenRows, side: Side, p: usize, band: &Band, unit: usize)
     requires words { 64 * W ≡ columns band.now.planes.now.side }
     requires side { side ≡ band.now.planes.now.side }
     requires plane { p < 4 }
@@ -138,9 +140,10 @@ fn put_west<const W: usize>(part: &mut Part, side: Side, p: usize, band: &Band, 
     put_beside::<W>(part, side, Compass::West, p, band, unit);
 }
 
-/// Writes what lies to the east of the cells in plane `p`.
+/// Writes to all eighteen rows of `part`, at each column of the unit, the bit of plane `p` in the
+/// column to the east.
 #[inline(always)]
-fn put_east<const W: usize>(part: &mut Part, side: Side, p: usize, band: &Band, unit: usize)
+fn put_east<const W: usize>(part: &mut SeenRows, side: Side, p: usize, band: &Band, unit: usize)
     requires words { 64 * W ≡ columns band.now.planes.now.side }
     requires side { side ≡ band.now.planes.now.side }
     requires plane { p < 4 }
@@ -151,11 +154,12 @@ fn put_east<const W: usize>(part: &mut Part, side: Side, p: usize, band: &Band, 
     put_beside::<W>(part, side, Compass::East, p, band, unit);
 }
 
-/// Writes what lies in this direction in plane `p`. The direction is the centre, west or east. The
-/// first row and the last one lie elsewhere, so they are written apart from the others.
+/// Writes to all eighteen rows of `part`, at each column of the unit, the bit of plane `p` in this
+/// direction: the centre, west or east. The first row and the last one lie outside the band, so
+/// they are written apart from the others.
 #[inline(always)]
 fn put_beside<const W: usize>(
-    part: &mut Part,
+    part: &mut SeenRows,
     side: Side,
     compass: Compass,
     p: usize,
@@ -179,10 +183,11 @@ fn put_beside<const W: usize>(
     put_row_beside::<W>(part, side, compass, p, &own, unit, HEIGHT + 1);
 }
 
-/// Writes row `j` for `put_beside`, after the rows before it.
+/// Writes row `j` of `part`: at each column of the unit, the bit of plane `p` in this direction.
+/// Earlier rows stay as they are.
 #[inline(always)]
 fn put_row_beside<const W: usize>(
-    part: &mut Part,
+    part: &mut SeenRows,
     side: Side,
     compass: Compass,
     p: usize,
@@ -204,11 +209,12 @@ fn put_row_beside<const W: usize>(
     put_row::<W>(part, W * j, seen_beside(side, compass, p, band, unit, j));
 }
 
-/// Writes what lies in the cells' blocks of the even grid. The columns of a block lie in one word.
-/// Each call gets the grid and the rotation as constants, so its loop is compiled for them alone.
+/// Writes to rows 1 to 16 of `part` the bits of plane `p` that the cells in the unit's columns see
+/// at this rotation in their blocks of the even grid. The columns of a block lie in one word. Each
+/// inner call gets the grid and the rotation as constants, so its loop is compiled for them alone.
 #[inline(never)]
 fn put_in_even_blocks<const W: usize>(
-    part: &mut Part,
+    part: &mut SeenRows,
     side: Side,
     rotation: Rotation,
     p: usize,
@@ -265,10 +271,11 @@ fn put_in_even_blocks<const W: usize>(
     }
 }
 
-/// As `put_in_even_blocks`, of the odd grid. The columns of some of its blocks lie in two words.
+/// Writes to rows 1 to 16 of `part` the bits of plane `p` that the cells in the unit's columns see
+/// at this rotation in their blocks of the odd grid. The columns of some blocks lie in two words.
 #[inline(never)]
 fn put_in_odd_blocks<const W: usize>(
-    part: &mut Part,
+    part: &mut SeenRows,
     side: Side,
     rotation: Rotation,
     p: usize,
@@ -325,10 +332,11 @@ fn put_in_odd_blocks<const W: usize>(
     }
 }
 
-/// Writes what lies in the cells' blocks, if the band is eight whole rows of blocks.
+/// Writes to rows 1 to 16 of `part` the bits of plane `p` that the cells in the unit's columns see
+/// at this rotation in their blocks. The band has to be eight whole rows of blocks.
 #[inline(always)]
 fn put_from_upper<const W: usize>(
-    part: &mut Part,
+    part: &mut SeenRows,
     side: Side,
     grid: Grid,
     rotation: Rotation,
@@ -347,15 +355,16 @@ fn put_from_upper<const W: usize>(
 {
     let own = *band;
     for k in 0..HEIGHT / 2 {
-        put_pair::<W>(part, side, grid, rotation, p, &own, unit, 2 * k + 1);
+        write_block_rows::<W>(part, side, grid, rotation, p, &own, unit, 2 * k + 1);
     }
 }
 
-/// As `put_from_upper`, if the band's first row shares its blocks with the row to the band's north,
-/// and the last one with the row to its south.
+/// Writes to rows 1 to 16 of `part` the bits of plane `p` that the cells in the unit's columns see
+/// at this rotation in their blocks. The band's first row has to share its blocks with the row to
+/// the band's north, and its last one with the row to its south.
 #[inline(always)]
 fn put_from_lower<const W: usize>(
-    part: &mut Part,
+    part: &mut SeenRows,
     side: Side,
     grid: Grid,
     rotation: Rotation,
@@ -374,16 +383,18 @@ fn put_from_lower<const W: usize>(
 {
     let own = *band;
     for k in 0..HEIGHT / 2 {
-        put_row_in_block::<W>(part, side, grid, rotation, true, p, &own, unit, 2 * k + 1);
-        put_row_in_block::<W>(part, side, grid, rotation, false, p, &own, unit, 2 * k + 2);
+        write_block_row::<W>(part, side, grid, rotation, true, p, &own, unit, 2 * k + 1);
+        write_block_row::<W>(part, side, grid, rotation, false, p, &own, unit, 2 * k + 2);
     }
 }
 
-/// Writes rows `j` and `j + 1`, the upper and the lower one of the same blocks, after the rows
-/// before. Both are made before the first is written, so that what they look at is fetched once.
+/// Writes rows `j` and `j + 1` of `part`, the upper and the lower row of the same blocks: the bits
+/// of plane `p` that the cells in the unit's columns see at this rotation. Both rows are made
+/// before the first is written, so that what they look at is fetched once. Earlier rows stay as
+/// they are.
 #[inline(always)]
-fn put_pair<const W: usize>(
-    part: &mut Part,
+fn write_block_rows<const W: usize>(
+    part: &mut SeenRows,
     side: Side,
     grid: Grid,
     rotation: Rotation,
@@ -410,10 +421,12 @@ fn put_pair<const W: usize>(
     put_row::<W>(part, W * (j + 1), lower);
 }
 
-/// As `put_pair`, for row `j` alone. `lower` says whether it is the lower one of its blocks.
+/// Writes row `j` of `part`: the bits of plane `p` that the cells in the unit's columns see at this
+/// rotation in their blocks. `lower` says whether row `j` is the lower row of its blocks. Earlier
+/// rows stay as they are.
 #[inline(always)]
-fn put_row_in_block<const W: usize>(
-    part: &mut Part,
+fn write_block_row<const W: usize>(
+    part: &mut SeenRows,
     side: Side,
     grid: Grid,
     rotation: Rotation,
@@ -442,8 +455,8 @@ fn put_row_in_block<const W: usize>(
     );
 }
 
-/// The first row of its part that is made for this name: 0 or 1. As many rows are left out at the
-/// part's end.
+/// Returns the first row of a part that is made for this name: 0 or 1. As many rows are left out at
+/// the part's end.
 #[inline(always)]
 fn first_row(name: Name) -> usize
     ensures value { result ≡ first_row name }
@@ -455,10 +468,10 @@ fn first_row(name: Name) -> usize
     }
 }
 
-/// Writes the first `W` words of `row` to the part, from its word `at` on. The words before stay as
-/// they are.
+/// Writes the first `W` words of `row` to the part, from the part's word `at` on. The words before
+/// stay as they are.
 #[inline(always)]
-fn put_row<const W: usize>(part: &mut Part, at: usize, row: UnitRow)
+fn put_row<const W: usize>(part: &mut SeenRows, at: usize, row: UnitRow)
     requires words { W ≤ ROW_WORDS }
     requires room { at + W ≤ PART }
     ensures row { (x : ℕ) → x < 64 * W → column_bit part.new (64 * at + x) ≡ column_bit row x }

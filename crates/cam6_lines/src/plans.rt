@@ -38,7 +38,8 @@ impl Model for Plan {
 }
 
 impl Plan {
-    /// Returns the plan for the lines for which the mask `asked` has a bit, under a wiring.
+    /// Returns the plan for these lines under a wiring. The mask `asked` has a bit for each of the
+    /// lines.
     pub fn of(asked: u16, hood: Hood, minor: Minor) -> Plan
         ensures lines { result.lines ≡ asked }
         ensures hood { result.hood ≡ hood }
@@ -55,7 +56,7 @@ impl Plan {
         }
     }
 
-    /// A copy of the plan.
+    /// Returns a copy of the plan.
     pub fn copy(&self) -> Plan
         ensures { result ≡ self.now }
     {
@@ -68,7 +69,7 @@ impl Plan {
         }
     }
 
-    /// Returns whether the plan is for these lines under this wiring.
+    /// Whether the plan is for the lines of the mask `asked`, under this wiring.
     pub fn is_for(&self, asked: u16, hood: Hood, minor: Minor) -> bool
         ensures lines { IsTrue result → self.now.lines ≡ asked }
         ensures hood { IsTrue result → self.now.hood ≡ hood }

@@ -25,7 +25,8 @@ pub(crate) const ROW_WORDS: usize = 4;
 /// A row of a unit. At side 128 only its first two words mean anything.
 pub(crate) type UnitRow = [u64; ROW_WORDS];
 
-/// What the cells of a unit see under a name, in row `j` of a part.
+/// Returns what the cells in the unit's columns see under a name, in row `j` of a part. Row 0 of a
+/// part lies to the north of the band, rows 1 to 16 in it, and row 17 to its south.
 #[inline(always)]
 pub(crate) fn row_seen(
     side: Side,
@@ -81,7 +82,8 @@ pub(crate) fn row_seen(
     }
 }
 
-/// Whether row `j` of a part is the lower one of its blocks.
+/// Whether row `j` of a part is the lower row of its blocks. Row 1 of the part is the band's first
+/// row.
 #[inline(always)]
 pub(crate) fn is_lower(grid: Grid, band: &Band, j: usize) -> bool
     requires within { IsWithin band.now }
@@ -92,9 +94,9 @@ pub(crate) fn is_lower(grid: Grid, band: &Band, j: usize) -> bool
     side_in_block(grid, band.first + j - 1) == 1
 }
 
-/// What the unit's cells in row `j` of a part see of plane `p` in their blocks. `lower` says
-/// whether row `j` is the lower one of its blocks. The other row lies to the south of the upper
-/// one, and to the north of the lower one.
+/// Returns the bits of plane `p` that the cells in the unit's columns see at this rotation in their
+/// blocks, in row `j` of a part. `lower` says whether row `j` is the lower row of its blocks. The
+/// other row lies to the south of the upper one, and to the north of the lower one.
 #[inline(always)]
 pub(crate) fn seen_in_block(
     side: Side,
@@ -133,8 +135,8 @@ pub(crate) fn seen_in_block(
     }
 }
 
-/// The other row of the blocks in which row `j` of a part lies. `lower` says whether row `j` is
-/// their lower one.
+/// Returns the number of the other row of the blocks in which row `j` of a part lies. `lower` says
+/// whether row `j` is their lower row.
 #[inline(always)]
 fn other_row(lower: bool, j: usize) -> usize
     requires first { 0 < j }
@@ -146,9 +148,9 @@ fn other_row(lower: bool, j: usize) -> usize
     if lower { j - 1 } else { j + 1 }
 }
 
-/// What lies in the cells' blocks one corner from them. If `left_along` is true, the left columns
-/// look along their row, and the right ones across to the other row. If not, it is the other way
-/// round.
+/// Returns the bits in the cells' blocks one corner from the cells in the unit's columns of row
+/// `here`. If `left_along` is true, the left columns look along their row, and the right ones
+/// across to the row `other`. If not, it is the other way round.
 #[inline(always)]
 fn along_or_across(
     grid: Grid,
@@ -172,7 +174,8 @@ fn along_or_across(
     }
 }
 
-/// The left columns of the grid's blocks of one row, and the right ones of another.
+/// Returns the bits of `left` in the left columns of the grid's blocks, and those of `right` in the
+/// right columns.
 #[inline(always)]
 fn by_sides(grid: Grid, left: UnitRow, right: UnitRow) -> UnitRow
     ensures { (i : ℕ) → i < 64 * ROW_WORDS → column_bit result i
@@ -187,7 +190,8 @@ fn by_sides(grid: Grid, left: UnitRow, right: UnitRow) -> UnitRow
     ]
 }
 
-/// What the unit's cells in row `j` of a part see of plane `p` in this direction.
+/// Returns, at each column of the unit, the bit of plane `p` that lies in this direction from the
+/// cell in row `j` of a part.
 #[inline(always)]
 pub(crate) fn seen_beside(
     side: Side,
@@ -212,7 +216,8 @@ pub(crate) fn seen_beside(
     columns_beside(row, compass, side, unit)
 }
 
-/// The row of a part that lies in this direction from row `j`.
+/// Returns the number of the row of a part that lies in this direction from row `j`: `j - 1` for
+/// the north, `j + 1` for the south, else `j`.
 #[inline(always)]
 fn row_beside(compass: Compass, j: usize) -> usize
     requires first { first_beside compass ≤ j }
@@ -228,7 +233,8 @@ fn row_beside(compass: Compass, j: usize) -> usize
     }
 }
 
-/// At each column of the unit, the row's bit in the column that lies in this direction.
+/// Returns, at each column of the unit, the row's bit in the column to the west or east. If the
+/// direction has neither, it is the bit of the column itself.
 #[inline(always)]
 fn columns_beside(row: &Row, compass: Compass, side: Side, unit: usize) -> UnitRow
     requires { columns side * unit < side_number side }
@@ -242,7 +248,7 @@ fn columns_beside(row: &Row, compass: Compass, side: Side, unit: usize) -> UnitR
     }
 }
 
-/// At each column of the unit, the row's bit in the column itself.
+/// Returns the row's bits in the unit's columns.
 #[inline(always)]
 fn columns_here(row: &Row, side: Side, unit: usize) -> UnitRow
     requires { columns side * unit < side_number side }
@@ -252,7 +258,7 @@ fn columns_here(row: &Row, side: Side, unit: usize) -> UnitRow
     words_here(row, words_of_row(side) * unit)
 }
 
-/// At each column of the unit, the row's bit to the west.
+/// Returns, at each column of the unit, the row's bit in the column to the west, round the torus.
 #[inline(always)]
 fn columns_west(row: &Row, side: Side, unit: usize) -> UnitRow
     requires { columns side * unit < side_number side }
@@ -262,7 +268,7 @@ fn columns_west(row: &Row, side: Side, unit: usize) -> UnitRow
     words_west(row, side.words(), words_of_row(side) * unit)
 }
 
-/// At each column of the unit, the row's bit to the east.
+/// Returns, at each column of the unit, the row's bit in the column to the east, round the torus.
 #[inline(always)]
 fn columns_east(row: &Row, side: Side, unit: usize) -> UnitRow
     requires { columns side * unit < side_number side }
@@ -272,7 +278,7 @@ fn columns_east(row: &Row, side: Side, unit: usize) -> UnitRow
     words_east(row, side.words(), words_of_row(side) * unit)
 }
 
-/// The four words from word `first` on.
+/// Returns the row's four words from word `first` on.
 #[inline(always)]
 fn words_here(row: &Row, first: usize) -> UnitRow
     requires { first + ROW_WORDS ≤ WORDS }
@@ -281,8 +287,8 @@ fn words_here(row: &Row, first: usize) -> UnitRow
     [row[first], row[first + 1], row[first + 2], row[first + 3]]
 }
 
-/// The four words from word `first` on. Each column has the bit to its west in the row of `words`
-/// words.
+/// Returns the row's four words from word `first` on, with each bit replaced by the bit to its
+/// west. West of the first column is the last of the row's `words` words.
 #[inline(always)]
 fn words_west(row: &Row, words: usize, first: usize) -> UnitRow
     requires some { 0 < words }
@@ -300,8 +306,10 @@ fn words_west(row: &Row, words: usize, first: usize) -> UnitRow
     ]
 }
 
-/// As `words_west`, to the east. A row has an even number of words, and its units begin at even
-/// ones. So two of the four have their next word in the row, whatever its side.
+/// Returns the row's four words from word `first` on, with each bit replaced by the bit to its
+/// east. East of the last column of the row's `words` words is the first. A row has an even number
+/// of words, and its units begin at even ones. So two of the four have their next word in the row,
+/// whatever its side.
 #[inline(always)]
 fn words_east(row: &Row, words: usize, first: usize) -> UnitRow
     requires most { words ≤ WORDS }
@@ -320,7 +328,7 @@ fn words_east(row: &Row, words: usize, first: usize) -> UnitRow
     ]
 }
 
-/// The number of the word to the west of word `i`, round a row of `words` words.
+/// Returns the number of the word to the west of word `i`, round a row of `words` words.
 #[inline(always)]
 fn word_before(words: usize, i: usize) -> usize
     requires words { 0 < words }
@@ -332,7 +340,7 @@ fn word_before(words: usize, i: usize) -> usize
     if i == 0 { words - 1 } else { i - 1 }
 }
 
-/// The number of the word to the east of word `i`, round a row of `words` words.
+/// Returns the number of the word to the east of word `i`, round a row of `words` words.
 #[inline(always)]
 fn word_after(words: usize, i: usize) -> usize
     requires words { words ≤ WORDS }

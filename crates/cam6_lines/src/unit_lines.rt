@@ -14,7 +14,7 @@ ghost use Rattle.cam6_wiring.specs.declared.names.Name.{Name};
 ghost use Rattle.cam6_wiring.specs.declared.wirings.TheConstants.{LINES};
 
 use crate::bands::Band;
-use crate::parts::{PART, Part, put_part};
+use crate::parts::{PART, SeenRows, put_part};
 use crate::plans::Plan;
 use crate::units::{Unit, words_of_row};
 use crate::views::{Needed, View, unit_of};
@@ -29,7 +29,7 @@ pub type Lines<'a> = [&'a Unit; LINES];
 /// Contracts see it as the units of the twelve lines.
 #[derive(Drop)]
 pub struct UnitLines {
-    parts: [Part; LINES],
+    parts: [SeenRows; LINES],
     views: [Option<View>; LINES],
     /// Words of a row of the parts.
     words: usize,
@@ -49,7 +49,7 @@ impl Model for UnitLines {
 }
 
 impl UnitLines {
-    /// Scratch in which every line shows 0.
+    /// Makes scratch in which every line shows 0.
     pub fn blank() -> UnitLines {
         UnitLines {
             parts: [[0; PART]; LINES],
@@ -58,8 +58,8 @@ impl UnitLines {
         }
     }
 
-    /// Makes what the cells of a unit of the band see on the lines for which a plan asks. The other
-    /// lines show 0.
+    /// Replaces the lines by what the cells of a unit of the band see on the lines for which the
+    /// plan asks. The other lines show 0. `unit` is the unit's number in the band.
     pub fn put(&mut self, plan: &Plan, setting: &Setting, band: &Band, unit: usize)
         requires within { IsWithin band.now }
         requires unit { columns band.now.planes.now.side * unit < side_of band.now }
@@ -98,8 +98,9 @@ impl UnitLines {
     }
 }
 
-/// Makes the parts that are needed, by loops that are compiled for the words of a unit's row.
-fn put_parts(parts: &mut [Part], needed: &Needed, setting: &Setting, band: &Band, unit: usize)
+/// Writes each part that is needed for a unit of the band, by loops that are compiled for the words
+/// of a unit's row.
+fn put_parts(parts: &mut [SeenRows], needed: &Needed, setting: &Setting, band: &Band, unit: usize)
     requires room { needed.now.count ≤ length parts.old }
     requires most { needed.now.count ≤ LINES }
     requires within { IsWithin band.now }
@@ -115,9 +116,10 @@ fn put_parts(parts: &mut [Part], needed: &Needed, setting: &Setting, band: &Band
     }
 }
 
-/// As `put_parts`, at this side. A row of its units has `W` words.
+/// Writes each part that is needed for a unit of the band, whose side is `side`. A row of the unit
+/// has `W` words.
 fn put_parts_at<const W: usize>(
-    parts: &mut [Part],
+    parts: &mut [SeenRows],
     needed: &Needed,
     side: Side,
     setting: &Setting,
@@ -139,10 +141,11 @@ fn put_parts_at<const W: usize>(
     }
 }
 
-/// Makes the part for a name. Without a name the part stays as it was.
+/// Writes to `part` what the cells of a unit of the band see under a name. Without a name the part
+/// stays as it was.
 #[inline(always)]
 fn put_named<const W: usize>(
-    part: &mut Part,
+    part: &mut SeenRows,
     name: Option<Name>,
     side: Side,
     setting: &Setting,

@@ -10,7 +10,7 @@ ghost use Rattle.cam6_lines.specs.Internal.Views.{part_beside, part_name, seen_b
 ghost use Rattle.cam6_lines.specs.Internal.Views.{unit_of, IsInside, IsPartFor, IsSeen, AreViews};
 ghost use Rattle.cam6_lines.specs.Internal.Views.{HasParts};
 
-use crate::parts::{PART, Part};
+use crate::parts::{PART, SeenRows};
 use crate::units::{UNIT, Unit};
 use cam6_wiring::{Compass, LINES, Name};
 
@@ -31,9 +31,10 @@ pub(crate) struct Needed {
 /// A unit in which every line shows 0.
 static NOTHING: Unit = [0; UNIT];
 
-/// The unit that is seen in parts with so many words in a row; zeros without a view.
+/// Lends the unit that a view picks from the parts, or a unit of zeros without a view. A row of the
+/// parts has `words` words.
 #[inline]
-pub(crate) fn unit_of(parts: &[Part], words: usize, view: Option<View>) -> &Unit
+pub(crate) fn unit_of(parts: &[SeenRows], words: usize, view: Option<View>) -> &Unit
     requires view { IfSome view (IsInside (length parts.now)) }
     requires words { words ≤ 4 }
     ensures { result.now ≡ unit_of parts.now words view }
@@ -44,9 +45,9 @@ pub(crate) fn unit_of(parts: &[Part], words: usize, view: Option<View>) -> &Unit
     }
 }
 
-/// The unit that begins at word `start` of the part at index `part`.
+/// Lends the unit that begins at word `start` of the part at index `part`.
 #[inline]
-fn unit_at(parts: &[Part], part: usize, start: usize) -> &Unit
+fn unit_at(parts: &[SeenRows], part: usize, start: usize) -> &Unit
     requires part { part < length parts.now }
     requires start { start + UNIT ≤ PART }
     ensures { result.now ≡ take UNIT (drop start (slice_index_or parts.now part [])) }
@@ -55,7 +56,7 @@ fn unit_at(parts: &[Part], part: usize, start: usize) -> &Unit
 }
 
 impl Needed {
-    /// No part.
+    /// Returns a list of no parts.
     pub(crate) fn none() -> Needed
         ensures { result.count ≡ 0 }
     {
@@ -65,8 +66,8 @@ impl Needed {
         }
     }
 
-    /// Returns how each line is seen, or `None` for a line that isn't asked for or has no name.
-    /// Adds the parts that they need.
+    /// Returns where each line is seen, in which part and from which row on. It is `None` for a
+    /// line that isn't asked for or has no name. Adds the parts in which the lines are seen.
     pub(crate) fn views_of(
         &mut self,
         asked: u16,
@@ -83,8 +84,8 @@ impl Needed {
         views
     }
 
-    /// Returns how a line is seen, or `None` if it isn't asked for or has no name. Adds its part,
-    /// if that isn't there.
+    /// Returns where a line with this name is seen, in which part and from which row on. Returns
+    /// `None` if the line isn't asked for or has no name. Adds the part if it is missing.
     fn view_of(&mut self, asked: bool, name: Option<Name>) -> Option<View>
         requires { self.old.count < LINES }
         ensures seen { IsSeen self.new asked name result }
@@ -93,7 +94,7 @@ impl Needed {
     {
         match name {
             Some(name) if asked => {
-                let part = self.place_of(part_name(name)) as u8;
+                let part = self.place_of(name_of_part(name)) as u8;
                 Some(View {
                     part,
                     row: seen_from(name) as u8,
@@ -103,7 +104,7 @@ impl Needed {
         }
     }
 
-    /// The place of the part for a name. It is added if it isn't there.
+    /// Returns the index of the part that is made for this name. Adds the part if it is missing.
     fn place_of(&mut self, name: Name) -> usize
         requires { self.old.count < LINES }
         ensures place { IsPartFor self.new name result }
@@ -132,7 +133,7 @@ fn is_named(known: Option<Name>, name: Name) -> bool
     }
 }
 
-/// Whether the mask has a bit for the line.
+/// Whether the mask `asked` has a bit for the line.
 #[inline]
 fn is_asked(asked: u16, line: usize) -> bool
     requires { line < LINES }
@@ -141,9 +142,9 @@ fn is_asked(asked: u16, line: usize) -> bool
     asked >> line & 1 == 1
 }
 
-/// Returns the name whose part shows a line with this name. Names to the north and to the south are
-/// seen in the part of the name between them.
-fn part_name(name: Name) -> Name
+/// Returns the name of the part in which this name is seen: the same direction without its north or
+/// south, and the same level. A name without a direction has its own part.
+fn name_of_part(name: Name) -> Name
     ensures { result ≡ part_name name }
 {
     match name {
@@ -163,7 +164,8 @@ fn part_beside(compass: Compass) -> Compass
     }
 }
 
-/// The first row of the part that is seen under a name.
+/// Returns the first row of its part in which this name is seen: 0 to the north, 2 to the south,
+/// else 1.
 fn seen_from(name: Name) -> usize
     ensures row { result ≡ seen_from name }
     ensures within { result ≤ 2 }

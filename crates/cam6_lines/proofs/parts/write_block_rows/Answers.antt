@@ -5,7 +5,7 @@ use Rattle.cam6_lines.specs.Bands.{side_of}
 use Rattle.cam6_lines.specs.Units.{columns}
 use Rattle.cam6_lines.specs.Internal.Parts.{row_above}
 use Rattle.cam6_lines.proofs.WrittenRows.{rows_more}
-use Rattle.cam6_lines.proofs.parts.put_pair.Goals as goal
+use Rattle.cam6_lines.proofs.parts.write_block_rows.Goals as goal
 
 pub returns : goal.returns
 returns g c = λ f of done r i from h l.
