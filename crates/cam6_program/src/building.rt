@@ -34,7 +34,8 @@ pub(crate) struct Diagram {
 }
 
 impl Diagram {
-    /// Returns the diagram of the lower and the upper bits of entries, or `TooLong`.
+    /// Returns the diagram that makes the two lowest bits of the entries from the lines, joined in
+    /// this order. Returns `TooLong` if it needs more choices than places.
     pub(crate) fn of(entries: &[u8], order: Order) -> Result<Diagram, TooLong>
         requires { length entries.now ≡ 2 ^ LINES }
         ensures { IfOk result (λ diagram. diagram.count ≤ PLACES) }
@@ -54,7 +55,8 @@ impl Diagram {
         Ok(diagram)
     }
 
-    /// A diagram with no choice yet but the lines, after operations that count lines.
+    /// Returns a diagram with the lines alone, and with `counters` places after them for the
+    /// operations that count lines.
     pub(crate) fn with_counters(counters: usize) -> Diagram
         requires { LINES + counters ≤ PLACES }
         ensures { result.count ≤ PLACES }
@@ -81,7 +83,7 @@ impl Diagram {
         }
     }
 
-    /// Notes the nodes of both levels.
+    /// Sets the nodes from which the lower and the upper level are read.
     pub(crate) fn end(&mut self, lower: Node, upper: Node)
         ensures { self.new.count ≡ self.old.count }
     {
@@ -89,8 +91,9 @@ impl Diagram {
         self.upper = upper;
     }
 
-    /// Joins each pair of nodes to their choice by a line. Writes the choices to the first half of
-    /// `nodes`.
+    /// Replaces each two neighbouring nodes by the node of the choice among them by `by`. Writes
+    /// these nodes to the first half of `nodes`. Returns `TooLong` if there are more choices than
+    /// places.
     pub(crate) fn join_pairs(&mut self, by: Node, nodes: &mut [Node]) -> Result<(), TooLong>
         requires { self.old.count ≤ PLACES }
         ensures { self.new.count ≤ PLACES }
@@ -118,7 +121,8 @@ impl Diagram {
         Ok(())
     }
 
-    /// Returns the node of a choice by this line. Adds the choice if it is needed and new.
+    /// Returns the node of a choice by the line that is being joined. Adds the choice if it is
+    /// needed and new. Returns `TooLong` if there is no place left.
     fn node(&mut self, choice: Choice) -> Result<Node, TooLong>
         requires { self.old.count ≤ PLACES }
         ensures { self.new.count ≤ PLACES }
@@ -127,13 +131,14 @@ impl Diagram {
             return Ok(choice.low);
         }
         if choice.low.is_inverse() {
-            return Ok(self.placed(choice.inverse())?.inverse());
+            return Ok(self.place_choice(choice.inverse())?.inverse());
         }
-        self.placed(choice)
+        self.place_choice(choice)
     }
 
-    /// Returns the node of a choice by this line whose `low` is no inverse. Adds it if it is new.
-    fn placed(&mut self, choice: Choice) -> Result<Node, TooLong>
+    /// Returns the node of a choice by the line that is being joined, whose `low` is no inverse.
+    /// Adds the choice if it is new. Returns `TooLong` if there is no place left.
+    fn place_choice(&mut self, choice: Choice) -> Result<Node, TooLong>
         requires { self.old.count ≤ PLACES }
         ensures { self.new.count ≤ PLACES }
     {

@@ -19,9 +19,9 @@ pub(crate) const COUNTERS: usize = 18;
 /// What the entries are chosen by, if the eight lines are counted: four lines, and the sum's bits.
 const COUNTED: usize = 1 << 8;
 
-/// Adds the bits of the eight lines. Each of four full adders is two exclusive ors and a choice, for
-/// the sum and the carry. Operations 9, 14, 16 and 17 make the bits of the whole sum, the lowest
-/// first.
+/// Returns operation `place` of those that add the bits of lines 2 to 9. Each of four full adders
+/// is two exclusive ors and a choice, for the sum and the carry. Operations 9, 14, 16 and 17 make
+/// the bits of the whole sum, the lowest first.
 pub(crate) fn counter(place: usize) -> Operation {
     match place {
         0 => xor(line(2), line(3)),
@@ -45,36 +45,37 @@ pub(crate) fn counter(place: usize) -> Operation {
     }
 }
 
-/// What a line shows, as a source of a step.
+/// Returns the source that reads a line.
 fn line(line: u8) -> Source {
     Source::Line(line)
 }
 
-/// What another of these operations makes.
+/// Returns the source that reads what operation `place` of `counter` makes.
 fn slot(place: usize) -> Source
     requires { place < COUNTERS }
 {
-    result_of(place).source()
+    node_of_operation(place).source()
 }
 
-/// The node of one of these operations, which stand after the lines.
-pub(crate) fn result_of(place: usize) -> Node
+/// Returns the node of operation `place` of `counter`. In the diagram the operations stand after
+/// the lines.
+pub(crate) fn node_of_operation(place: usize) -> Node
     requires { place < COUNTERS }
 {
     Node::at(LINES + place)
 }
 
-/// 1 if exactly one of two sources is 1.
+/// Returns the operation that makes 1 where exactly one of two sources is 1.
 fn xor(first: Source, second: Source) -> Operation {
     Operation::Xor(first, second)
 }
 
-/// `high` if `by` is 1, and `low` if it is 0.
+/// Returns the operation that makes `high` where `by` is 1, and `low` where it is 0.
 fn choice(by: Source, low: Source, high: Source) -> Operation {
     Operation::Choice { by, low, high }
 }
 
-/// Whether entries stay the same if the bits of two of the eight lines are exchanged.
+/// Whether the entries depend on lines 2 to 9 only by how many of these lines show 1.
 pub(crate) fn counts(entries: &[u8]) -> bool
     requires { length entries.now ≡ 2 ^ LINES }
 {
@@ -86,8 +87,8 @@ pub(crate) fn counts(entries: &[u8]) -> bool
     true
 }
 
-/// Whether entries stay the same if two lines are exchanged that lie side by side. `bit` is the bit
-/// of the lower one in an address.
+/// Whether the entries stay the same if two neighbouring lines are exchanged. `bit` is the value of
+/// the lower line in an address.
 fn are_alike(entries: &[u8], bit: usize) -> bool
     requires { length entries.now ≡ 2 ^ LINES }
 {
@@ -101,8 +102,9 @@ fn are_alike(entries: &[u8], bit: usize) -> bool
     true
 }
 
-/// Returns the diagram of entries that count the eight lines, or `TooLong`.
-pub(crate) fn counting(entries: &[u8]) -> Result<Diagram, TooLong>
+/// Returns the diagram of entries that depend on lines 2 to 9 only by how many of these lines show
+/// 1. Returns `TooLong` if it needs more choices than places.
+pub(crate) fn counting_diagram(entries: &[u8]) -> Result<Diagram, TooLong>
     requires { length entries.now ≡ 2 ^ LINES }
     ensures { IfOk result (λ diagram. diagram.count ≤ PLACES) }
 {
@@ -120,22 +122,24 @@ pub(crate) fn counting(entries: &[u8]) -> Result<Diagram, TooLong>
     Ok(diagram)
 }
 
-/// What the entries are chosen by: lines 0, 1, 10 and 11, and the bits of the sum.
+/// Returns the node by which round `k` joins the entries: lines 0, 1, 10 and 11 in rounds 0 to 3,
+/// and then the bits of the sum, the lowest first.
 fn chosen_by(k: usize) -> Node {
     match k {
         0 => Node::line(0),
         1 => Node::line(1),
         2 => Node::line(10),
         3 => Node::line(11),
-        4 => result_of(9),
-        5 => result_of(14),
-        6 => result_of(16),
-        _ => result_of(17),
+        4 => node_of_operation(9),
+        5 => node_of_operation(14),
+        6 => node_of_operation(16),
+        _ => node_of_operation(17),
     }
 }
 
-/// An address with these bits of the four lines, and this sum of the eight. A sum above 8 never
-/// comes. It is taken for one that is less by 8, so that the highest bit seldom matters.
+/// Returns an address with the four lowest bits of `k` on lines 0, 1, 10 and 11, and with as many
+/// ones on lines 2 to 9 as the next four bits say. More than 8 ones never come. They are taken for
+/// 8 less, so that the highest bit seldom matters.
 fn counted_address(k: usize) -> usize
     ensures { result < ENTRIES }
 {
@@ -144,7 +148,7 @@ fn counted_address(k: usize) -> usize
     (k % 4 + k / 4 % 4 * 1024 + with_ones(below)) % ENTRIES
 }
 
-/// An address with so many ones in the eight lines, and none in the others.
+/// Returns an address with this many ones on lines 2 to 9, and 0 on all other lines.
 fn with_ones(ones: usize) -> usize
     ensures { result ≤ 1020 }
 {

@@ -28,43 +28,44 @@ const FIRST: u8 = 2;
 const FIRST_CHOICE: u8 = 26;
 
 impl Node {
-    /// The lowest bit of a byte, always.
+    /// Returns the constant node with the lowest bit of a byte.
     pub(crate) fn lowest_bit(byte: u8) -> Node {
         Node(byte & 1)
     }
 
-    /// What a line shows.
+    /// Returns the node of a line.
     pub(crate) fn line(line: usize) -> Node
         requires { line < LINES }
     {
         Node::at(line)
     }
 
-    /// What stands at a place of the diagram.
+    /// Returns the node at a place of the diagram.
     pub(crate) fn at(place: usize) -> Node
         requires { place < PLACES }
     {
         Node(FIRST + 2 * place as u8)
     }
 
-    /// Its number among all nodes.
+    /// The node's number, below `NODES`.
     pub(crate) fn number(self) -> usize
         ensures { result < NODES }
     {
         usize::from(self.0)
     }
 
-    /// The node that is 1 exactly where this one is 0.
+    /// Returns the node that is 1 exactly where this one is 0.
     pub(crate) fn inverse(self) -> Node {
         Node(self.0 ^ 1)
     }
 
-    /// Whether it is the inverse of a place, or the constant 1.
+    /// Whether this node is the inverse of the node at a place, or the constant 1.
     pub(crate) fn is_inverse(self) -> bool {
         self.0 & 1 == 1
     }
 
-    /// The node as a step reads it, if each node had the slot of its own number.
+    /// Returns the source by which a step reads the node, as if each node had the slot of its own
+    /// number.
     pub(crate) fn source(self) -> Source {
         if self.0 < FIRST {
             Source::Constant(self == ONE)
@@ -85,7 +86,7 @@ pub(crate) struct Choice {
 }
 
 impl Choice {
-    /// The choice that selects 1 exactly where this one selects 0.
+    /// Returns the choice that selects 1 exactly where this one selects 0.
     pub(crate) fn inverse(self) -> Choice {
         Choice {
             by: self.by,

@@ -6,7 +6,7 @@ ghost use Rattle.cam6_lines.specs.declared.units.TheConstants.{UNIT};
 
 use cam6_lines::{UNIT, Unit};
 
-/// `high` where `by` is 1, and `low` where it is 0.
+/// Writes `high` where `by` is 1, and `low` where it is 0, in the first `words` words of `out`.
 #[inline(always)]
 pub(crate) fn put_choice(out: &mut Unit, by: &Unit, low: &Unit, high: &Unit, words: usize)
     requires { words ≤ UNIT }
@@ -18,7 +18,8 @@ pub(crate) fn put_choice(out: &mut Unit, by: &Unit, low: &Unit, high: &Unit, wor
     }
 }
 
-/// `high` inverted where `by` is 1, and `low` where it is 0.
+/// Writes `high` inverted where `by` is 1, and `low` where it is 0, in the first `words` words of
+/// `out`.
 #[inline(always)]
 pub(crate) fn put_choice_not(out: &mut Unit, by: &Unit, low: &Unit, high: &Unit, words: usize)
     requires { words ≤ UNIT }
@@ -30,7 +31,7 @@ pub(crate) fn put_choice_not(out: &mut Unit, by: &Unit, low: &Unit, high: &Unit,
     }
 }
 
-/// 1 where both are 1.
+/// Writes 1 where both units are 1, and else 0, in the first `words` words of `out`.
 #[inline(always)]
 pub(crate) fn put_and(out: &mut Unit, first: &Unit, second: &Unit, words: usize)
     requires { words ≤ UNIT }
@@ -42,7 +43,8 @@ pub(crate) fn put_and(out: &mut Unit, first: &Unit, second: &Unit, words: usize)
     }
 }
 
-/// 1 where the first is 1 and the second is not.
+/// Writes 1 where the first unit is 1 and the second is 0, and else 0, in the first `words` words
+/// of `out`.
 #[inline(always)]
 pub(crate) fn put_and_not(out: &mut Unit, first: &Unit, second: &Unit, words: usize)
     requires { words ≤ UNIT }
@@ -54,7 +56,8 @@ pub(crate) fn put_and_not(out: &mut Unit, first: &Unit, second: &Unit, words: us
     }
 }
 
-/// 1 where the first or the second is 1.
+/// Writes 1 where the first or the second unit is 1, and else 0, in the first `words` words of
+/// `out`.
 #[inline(always)]
 pub(crate) fn put_or(out: &mut Unit, first: &Unit, second: &Unit, words: usize)
     requires { words ≤ UNIT }
@@ -66,7 +69,8 @@ pub(crate) fn put_or(out: &mut Unit, first: &Unit, second: &Unit, words: usize)
     }
 }
 
-/// 1 where the first is 1 or the second is not.
+/// Writes 1 where the first unit is 1 or the second is 0, and else 0, in the first `words` words of
+/// `out`.
 #[inline(always)]
 pub(crate) fn put_or_not(out: &mut Unit, first: &Unit, second: &Unit, words: usize)
     requires { words ≤ UNIT }
@@ -78,7 +82,7 @@ pub(crate) fn put_or_not(out: &mut Unit, first: &Unit, second: &Unit, words: usi
     }
 }
 
-/// 1 where exactly one of both is 1.
+/// Writes 1 where exactly one of both units is 1, and else 0, in the first `words` words of `out`.
 #[inline(always)]
 pub(crate) fn put_xor(out: &mut Unit, first: &Unit, second: &Unit, words: usize)
     requires { words ≤ UNIT }

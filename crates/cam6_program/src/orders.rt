@@ -16,7 +16,7 @@ pub(crate) enum Order {
 }
 
 impl Order {
-    /// The line that is joined in this round. Rounds are counted from 0.
+    /// Returns the line by which nodes are joined in round `level`. Rounds are counted from 0.
     pub(crate) fn line(self, level: usize) -> usize
         requires { level < LINES }
         ensures { result < LINES }
@@ -34,7 +34,7 @@ impl Order {
         }
     }
 
-    /// The address whose lines show the bits of `k`. The line of round 0 shows the lowest bit.
+    /// Returns the address with bit i of `k` on the line of round i, for each round.
     pub(crate) fn address(self, k: usize) -> usize
         requires { k < ENTRIES }
         ensures { result < ENTRIES }

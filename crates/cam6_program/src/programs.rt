@@ -13,13 +13,13 @@ ghost use Rattle.cam6_program.specs.Running.{ReadsNoSlot};
 ghost use Rattle.cam6_program.specs.declared.nodes.TheConstants.{PLACES};
 
 use crate::building::{Diagram, TooLong};
-use crate::counting::{counting, counts};
+use crate::counting::{counting_diagram, counts};
 use crate::orders::Order;
-use crate::running::{put_given, take_steps};
+use crate::running::{run_steps, write_source};
 use crate::slots::Slots;
 use crate::steps::{Operation, Source, Step};
 use crate::validating::agrees;
-use crate::writing::written;
+use crate::writing::write_program;
 use cam6_lines::{Lines, Unit};
 use cam6_wiring::Level;
 use std::marker::Model;
@@ -78,7 +78,8 @@ impl Program {
         }
     }
 
-    /// What its steps take: a choice reads three units, and the others two.
+    /// Returns the work of the program's steps: 5 for each choice, which reads three units, and 3
+    /// for each other step, which reads two.
     fn work(&self) -> usize {
         let mut work = 0usize;
         for step in self.steps[..self.count].iter() {
@@ -90,7 +91,9 @@ impl Program {
         work
     }
 
-    /// A program of the first `count` steps. It may mean anything.
+    /// Makes a program of the first `count` steps. `asked` is the mask of the lines that it reads.
+    /// `lower` and `upper` are the sources of the new bits, and a level without a source is kept.
+    /// Nothing checks what the program computes.
     pub(crate) fn new(
         steps: [Step; MAX_STEPS],
         count: usize,
@@ -109,21 +112,21 @@ impl Program {
         }
     }
 
-    /// A copy of the program.
+    /// Returns a copy of the program.
     pub fn copy(&self) -> Program
         ensures { result ≡ self.now }
     {
         Program { ..*self }
     }
 
-    /// The mask of the lines that it is shown.
+    /// The mask of the lines that the program reads. A bit is 1 for each of these lines.
     pub fn asked(&self) -> u16
         ensures { result ≡ self.now.asked }
     {
         self.asked
     }
 
-    /// Whether every cell keeps its bit of a level.
+    /// Whether the program leaves every cell's bit of this level as it is.
     pub fn keeps(&self, level: Level) -> bool
         ensures { result ≡ keeps level self.now }
     {
@@ -133,9 +136,9 @@ impl Program {
         }
     }
 
-    /// Writes the new bits of both levels in the first `words` words. Lines that the program
-    /// doesn't ask for must show 0. A level that is kept is not written. The slots are scratch for
-    /// what the steps make, and may hold anything before.
+    /// Writes the new bits of both levels to the first `words` words of `lower` and `upper`. Lines
+    /// that the program doesn't ask for must show 0. A level that the program keeps is not written.
+    /// The slots are scratch for what the steps make, and may hold anything before.
     pub fn run(
         &self,
         lines: &Lines,
@@ -155,17 +158,18 @@ impl Program {
         let steps = &self.steps[..self.count];
         if let Some(last) = self.last_step() {
             let steps = &steps[..steps.len() - 1];
-            take_steps(lower, steps, Some(last), lines, &mut slots.units, words);
-            put_given(upper, self.upper, lines, &slots.units[..0]);
+            run_steps(lower, steps, Some(last), lines, &mut slots.units, words);
+            write_source(upper, self.upper, lines, &slots.units[..0]);
         } else {
-            let written = take_steps(lower, steps, None, lines, &mut slots.units, words);
+            let written = run_steps(lower, steps, None, lines, &mut slots.units, words);
             let slots = &slots.units[..written];
-            put_given(lower, self.lower, lines, slots);
-            put_given(upper, self.upper, lines, slots);
+            write_source(lower, self.lower, lines, slots);
+            write_source(upper, self.upper, lines, slots);
         }
     }
 
-    /// The last step, if only the lower level is read from slots, and from the one that it writes.
+    /// Returns the last step, if the lower level is read from the slot that this step writes, and
+    /// the upper level from no slot. Else returns `None`.
     fn last_step(&self) -> Option<Step>
         ensures lower { IfSome result (λ last. self.now.lower ≡ Some (Slot last.into)) }
         ensures upper { IfSome result (λ last. ReadsNoSlot self.now.upper) }
@@ -185,20 +189,21 @@ impl Program {
     }
 }
 
-/// Whether a level is read from a slot.
+/// Whether a level with this source is read from a slot. Returns false without a source.
 fn reads_slot(source: Option<Source>) -> bool
     ensures { result ≡ false → ReadsNoSlot source }
 {
     matches!(source, Some(Source::Slot(_)))
 }
 
-/// The program with the least work that is found for entries. It may mean anything.
+/// Returns the program with the least work of those that are tried for the entries, or `None` if
+/// none is short enough. Nothing checks yet that it computes the entries.
 fn shortest(entries: &[u8]) -> Option<Program>
     requires { length entries.now ≡ 2 ^ LINES }
 {
     let plain = program_of(Diagram::of(entries, Order::Rising));
     if counts(entries) {
-        return lesser(program_of(counting(entries)), plain);
+        return lesser(program_of(counting_diagram(entries)), plain);
     }
     // Entries without structure would take as long again.
     if plain.is_none() {
@@ -210,7 +215,8 @@ fn shortest(entries: &[u8]) -> Option<Program>
     )
 }
 
-/// The first program if it has less work, and else the second.
+/// Returns the first program if it has less work than the second, and else the second. `None` has
+/// the most work.
 fn lesser(first: Option<Program>, second: Option<Program>) -> Option<Program> {
     if work_of(&first) < work_of(&second) {
         first
@@ -219,14 +225,15 @@ fn lesser(first: Option<Program>, second: Option<Program>) -> Option<Program> {
     }
 }
 
-/// The program of a diagram, if there is one.
+/// Returns the program of a diagram. Returns `None` if the diagram is too long, or needs too many
+/// slots.
 fn program_of(diagram: Result<Diagram, TooLong>) -> Option<Program>
     requires { IfOk diagram (λ diagram. diagram.count ≤ PLACES) }
 {
-    written(&diagram.ok()?)
+    write_program(&diagram.ok()?)
 }
 
-/// The work of a program. None has the most.
+/// Returns the work of a program, or the largest number for `None`.
 fn work_of(program: &Option<Program>) -> usize {
     match program {
         Some(program) => program.work(),

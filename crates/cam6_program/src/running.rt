@@ -33,7 +33,7 @@ static ZEROS: Unit = [0; UNIT];
 
 static ONES: Unit = [u64::MAX; UNIT];
 
-/// A unit that shows the same bit everywhere.
+/// Lends a unit that has this bit in all its columns.
 pub(crate) fn constant(bit: bool) -> &'static Unit
     ensures { (c : ℕ) → c < 64 * UNIT → column_bit result.now c ≡ bit }
 {
@@ -41,7 +41,7 @@ pub(crate) fn constant(bit: bool) -> &'static Unit
 }
 
 impl<'a> Readable<'a> {
-    /// What a source reads.
+    /// Lends the unit that a source reads: a constant, a line or a slot.
     fn read(&self, source: Source) -> &'a Unit
         ensures { (c : ℕ) → c < 64 * UNIT →
             column_bit result.now c ≡ read (lines_at c self.now) (slots_at c self.now) source }
@@ -53,7 +53,8 @@ impl<'a> Readable<'a> {
         }
     }
 
-    /// What a slot holds.
+    /// Lends the unit of this slot. It is all zeros if no step has written the slot, or if the slot
+    /// is being written.
     fn slot(&self, slot: usize) -> &'a Unit
         ensures { (c : ℕ) → c < 64 * UNIT →
             column_bit result.now c ≡ slice_index_or (slots_at c self.now) slot false }
@@ -69,7 +70,7 @@ impl<'a> Readable<'a> {
     }
 }
 
-/// What a line shows.
+/// Lends the unit of this line, or a unit of zeros past the last line.
 fn shown<'a>(lines: &Lines<'a>, line: usize) -> &'a Unit
     ensures { (c : ℕ) → c < 64 * UNIT → column_bit result.now c ≡
         slice_index_or (at_column c (map (λ line. line.now) lines.now)) line false }
@@ -107,8 +108,8 @@ fn put_result(out: &mut Unit, operation: Operation, from: &Readable, words: usiz
     }
 }
 
-/// How many slots are written after a step into this one: one more if it is the next one, and there
-/// is room for it.
+/// Returns how many slots are written after a step into slot `into`, if `written` are before it. It
+/// is one more if the slot is the next one, and there is room for it.
 #[inline(always)]
 fn written_after(written: usize, into: usize) -> usize
     requires { written ≤ MAX_SLOTS }
@@ -122,10 +123,10 @@ fn written_after(written: usize, into: usize) -> usize
     }
 }
 
-/// Takes a step, of which the first `written` slots are known to hold what earlier steps made.
-/// Returns how many do after it.
+/// Runs a step over the first `words` words of units. The first `written` slots hold what earlier
+/// steps made. Returns how many slots do after this step.
 #[inline(always)]
-fn take_step(
+fn run_step(
     step: Step,
     lines: &Lines,
     slots: &mut [Unit; MAX_SLOTS],
@@ -145,7 +146,8 @@ fn take_step(
     written
 }
 
-/// Puts what a step makes into its slot, whatever that holds.
+/// Writes what a step makes to its slot, whatever that holds. If the slot isn't among `slots`,
+/// writes nothing.
 #[inline(always)]
 fn write_slot(step: Step, lines: &Lines, slots: &mut [Unit], words: usize)
     requires { words ≤ UNIT }
@@ -160,7 +162,8 @@ fn write_slot(step: Step, lines: &Lines, slots: &mut [Unit], words: usize)
     }
 }
 
-/// Writes the first of `slots`, which follow the slots `before`.
+/// Writes the result of an operation to the first of `slots`. The operation can read the slots
+/// `before`, and those after the first.
 #[inline(always)]
 fn write_first(
     slots: &mut [Unit],
@@ -186,10 +189,11 @@ fn write_first(
     }
 }
 
-/// Takes all steps, one after the other, and returns how many slots they wrote. The slots may hold
-/// anything before. Then writes `out` by the last step, if there is one. For whole units and for
-/// halves the compiler knows the number of words, which makes the loops over them a third shorter.
-pub(crate) fn take_steps(
+/// Runs all steps in order over the first `words` words of units, and returns how many slots they
+/// wrote. The slots may hold anything before. Then writes to `out` what `last` would make of its
+/// slot, if there is one. For whole units and for halves the compiler knows the number of words,
+/// which makes the loops over them a third shorter.
+pub(crate) fn run_steps(
     out: &mut Unit,
     steps: &[Step],
     last: Option<Step>,
@@ -205,17 +209,18 @@ pub(crate) fn take_steps(
         beside (at_column c (map (λ line. line.now) lines.now)) steps.now last) }
 {
     if words == UNIT {
-        take_steps_of_units(out, steps, last, lines, slots)
+        run_steps_of_units(out, steps, last, lines, slots)
     } else if words == HALF_UNIT {
-        take_steps_of_halves(out, steps, last, lines, slots)
+        run_steps_of_halves(out, steps, last, lines, slots)
     } else {
-        take_steps_of_parts(out, steps, last, lines, slots, words)
+        run_steps_of_parts(out, steps, last, lines, slots, words)
     }
 }
 
-/// Takes all steps over whole units.
+/// Runs all steps in order over whole units. Then writes to `out` what `last` would make of its
+/// slot, if there is one. Returns how many slots the steps wrote.
 #[inline(never)]
-fn take_steps_of_units(
+fn run_steps_of_units(
     out: &mut Unit,
     steps: &[Step],
     last: Option<Step>,
@@ -228,12 +233,13 @@ fn take_steps_of_units(
     ensures last { IfSome last (λ last. (c : ℕ) → c < 64 * UNIT → column_bit out.new c ≡
         beside (at_column c (map (λ line. line.now) lines.now)) steps.now last) }
 {
-    take_all(out, steps, last, lines, slots, UNIT)
+    run_all_steps(out, steps, last, lines, slots, UNIT)
 }
 
-/// Takes all steps over the first halves of units.
+/// Runs all steps in order over the first halves of units. Then writes to `out` what `last` would
+/// make of its slot, if there is one. Returns how many slots the steps wrote.
 #[inline(never)]
-fn take_steps_of_halves(
+fn run_steps_of_halves(
     out: &mut Unit,
     steps: &[Step],
     last: Option<Step>,
@@ -246,12 +252,13 @@ fn take_steps_of_halves(
     ensures last { IfSome last (λ last. (c : ℕ) → c < 64 * HALF_UNIT → column_bit out.new c ≡
         beside (at_column c (map (λ line. line.now) lines.now)) steps.now last) }
 {
-    take_all(out, steps, last, lines, slots, HALF_UNIT)
+    run_all_steps(out, steps, last, lines, slots, HALF_UNIT)
 }
 
-/// Takes all steps over the first words of units.
+/// Runs all steps in order over the first `words` words of units. Then writes to `out` what `last`
+/// would make of its slot, if there is one. Returns how many slots the steps wrote.
 #[inline(never)]
-fn take_steps_of_parts(
+fn run_steps_of_parts(
     out: &mut Unit,
     steps: &[Step],
     last: Option<Step>,
@@ -266,12 +273,14 @@ fn take_steps_of_parts(
     ensures last { IfSome last (λ last. (c : ℕ) → c < 64 * words → column_bit out.new c ≡
         beside (at_column c (map (λ line. line.now) lines.now)) steps.now last) }
 {
-    take_all(out, steps, last, lines, slots, words)
+    run_all_steps(out, steps, last, lines, slots, words)
 }
 
-/// Takes all steps, one after the other, over the first `words` words of units.
+/// Runs all steps in order over the first `words` words of units. Then writes to `out` what `last`
+/// would make of its slot, if there is one. Returns how many slots the steps wrote. It is inlined
+/// into the three functions above, for their number of words.
 #[inline(always)]
-fn take_all(
+fn run_all_steps(
     out: &mut Unit,
     steps: &[Step],
     last: Option<Step>,
@@ -288,17 +297,18 @@ fn take_all(
 {
     let mut written = 0;
     for k in 0..steps.len() {
-        written = take_step(steps[k], lines, slots, written, words);
+        written = run_step(steps[k], lines, slots, written, words);
     }
     if let Some(last) = last {
-        put_beside(out, last, lines, slots, written, words);
+        put_step_result(out, last, lines, slots, written, words);
     }
     written
 }
 
-/// Writes to `out` what a step would make of its slot.
+/// Writes to `out` what a step would make of its slot, and changes no slot. The first `written`
+/// slots hold what earlier steps made.
 #[inline(always)]
-fn put_beside(
+fn put_step_result(
     out: &mut Unit,
     step: Step,
     lines: &Lines,
@@ -327,8 +337,9 @@ fn put_beside(
     }
 }
 
-/// Writes what a source reads after the last step. A level that is kept has no source.
-pub(crate) fn put_given(out: &mut Unit, source: Option<Source>, lines: &Lines, slots: &[Unit])
+/// Copies the unit that a source reads to `out`. `slots` are those that it may read. Without a
+/// source, `out` stays as it was.
+pub(crate) fn write_source(out: &mut Unit, source: Option<Source>, lines: &Lines, slots: &[Unit])
     ensures { IfSome source (λ source. (c : ℕ) → c < 64 * UNIT → column_bit out.new c ≡
         read (at_column c (map (λ line. line.now) lines.now)) (at_column c slots.now) source) }
 {

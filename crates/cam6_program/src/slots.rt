@@ -11,7 +11,7 @@ pub struct Slots {
 }
 
 impl Slots {
-    /// Scratch for the slots of any program.
+    /// Makes scratch for the slots of any program.
     pub fn blank() -> Slots {
         Slots {
             units: [[0; UNIT]; MAX_SLOTS],

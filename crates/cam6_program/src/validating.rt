@@ -29,7 +29,8 @@ pub(crate) fn agrees(program: &Program, entries: &[u8]) -> bool
     has_entries(&lower, &upper, entries)
 }
 
-/// Whether the units have the lower and the upper bits of the entries.
+/// Whether `lower` has the lowest bits of all entries, and `upper` the next bits. Each address has
+/// its column.
 fn has_entries(lower: &Unit, upper: &Unit, entries: &[u8]) -> bool
     requires { length entries.now ≡ 2 ^ LINES }
     ensures lower { IsTrue result → (address : ℕ) → address < 2 ^ LINES →
@@ -46,7 +47,8 @@ fn has_entries(lower: &Unit, upper: &Unit, entries: &[u8]) -> bool
     true
 }
 
-/// The lower and the upper bits of 64 entries.
+/// Returns the lowest bits of the 64 entries from entry 64 times `word` on, and then their next
+/// bits.
 fn packed(entries: &[u8], word: usize) -> (u64, u64)
     requires entries { length entries.now ≡ 2 ^ LINES }
     requires word { word < UNIT }
@@ -65,7 +67,8 @@ fn packed(entries: &[u8], word: usize) -> (u64, u64)
     (lower, upper)
 }
 
-/// The word moved one column to the west, and the lowest bit of an entry in its last column.
+/// Returns the word moved one column to the west, with the lowest bit of an entry in its last
+/// column.
 fn with_last(word: u64, entry: u8) -> u64
     ensures last { word_column result 63 ≡ (bit_at entry 0 == 1) }
     ensures others { (c : ℕ) → c < 63 → word_column result c ≡ word_column word (c + 1) }
@@ -73,7 +76,8 @@ fn with_last(word: u64, entry: u8) -> u64
     word << 1 | u64::from(entry & 1)
 }
 
-/// What the program makes of each address: the lower bits and the upper.
+/// Returns the lower and the upper bits that the program makes at each address. Each address has
+/// its column.
 fn made_at_addresses(program: &Program) -> (Unit, Unit)
     ensures lower { MakesAtAddresses Lower program.now result.0 }
     ensures upper { MakesAtAddresses Upper program.now result.1 }
@@ -89,7 +93,8 @@ fn made_at_addresses(program: &Program) -> (Unit, Unit)
     )
 }
 
-/// Returns what the program made of a level, or the cells' own bits if the level is kept.
+/// Returns `made`, which the program made of a level. If the program keeps the level, returns the
+/// cells' own bits instead.
 fn kept_or(program: &Program, level: Level, made: Unit) -> Unit
     requires { keeps level program.now ≡ false → MakesAtAddresses level program.now made }
     ensures { MakesAtAddresses level program.now result }
@@ -103,7 +108,8 @@ fn kept_or(program: &Program, level: Level, made: Unit) -> Unit
     }
 }
 
-/// The lines on which each column shows its own address. Lines that are not asked for show 0.
+/// Returns the lines on which each column shows its own number as its address. Lines that are not
+/// in the mask `asked` show 0.
 fn asked_lines(asked: u16) -> [Unit; LINES]
     ensures { (bits : List Bool) → length bits ≡ LINES →
         at_column (number_of bits) result ≡ asked_for asked bits }
@@ -115,7 +121,8 @@ fn asked_lines(asked: u16) -> [Unit; LINES]
     lines
 }
 
-/// One line of `asked_lines`.
+/// Returns one line, on which each column shows this line's bit of its own number. Returns zeros if
+/// the line is not in the mask `asked`.
 fn asked_line(asked: u16, line: usize) -> Unit
     requires { line < LINES }
     ensures { (address : ℕ) → address < 2 ^ LINES →
@@ -128,7 +135,7 @@ fn asked_line(asked: u16, line: usize) -> Unit
     }
 }
 
-/// A line where each column shows its own address.
+/// Returns the line on which each column shows this line's bit of its own number.
 fn address_line(line: usize) -> Unit
     requires { line < LINES }
     ensures { (address : ℕ) → address < 2 ^ LINES → column_bit result address ≡ shown address line }
@@ -150,7 +157,7 @@ const LOW_LINES: [u64; 6] = [
     0x0000_0000_FFFF_FFFF,
 ];
 
-/// One word of an `address_line`.
+/// Returns word `word` of the line on which each column shows this line's bit of its own number.
 fn address_word(line: usize, word: usize) -> u64
     requires line { line < LINES }
     requires word { word < UNIT }

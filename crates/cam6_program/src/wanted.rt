@@ -19,7 +19,7 @@ pub(crate) struct Wanted {
 }
 
 impl Wanted {
-    /// The nodes that are needed for the levels of a diagram.
+    /// Returns which nodes have to be made, so that the levels of a diagram can be read.
     pub(crate) fn of(diagram: &Diagram) -> Wanted
         requires { diagram.now.count ≤ PLACES }
     {
@@ -39,18 +39,18 @@ impl Wanted {
         wanted
     }
 
-    /// Notes that a node is read as it is.
+    /// Notes that a step or a level reads this node, and not its inverse.
     fn want(&mut self, node: Node) {
         self.made[node.number()] = true;
     }
 
-    /// Notes that a node is read, itself or its inverse.
+    /// Notes that a step can read this node or its inverse.
     fn want_either(&mut self, node: Node) {
         self.either[node.number()] = true;
     }
 
-    /// Notes what is read to make the node of a choice, or its inverse, or both. What reads these has
-    /// been noted before. If either will do, the node itself is made.
+    /// Notes what is read to make the node of a choice, or its inverse, or both. What reads these
+    /// two has been noted before. If either will do, the node itself is made.
     fn note_place(&mut self, node: Node, choice: Choice) {
         let own = node.number();
         let other = node.inverse().number();
@@ -82,7 +82,8 @@ impl Wanted {
         }
     }
 
-    /// A choice as an operation of the least work, if each node had the slot of its own number.
+    /// Returns the operation of the least work that makes a choice, as if each node had the slot of
+    /// its own number.
     pub(crate) fn operation(&self, choice: Choice) -> Operation {
         let Choice { low, high, .. } = choice;
         let by = choice.by.source();
@@ -101,7 +102,8 @@ impl Wanted {
         }
     }
 
-    /// 1 if the source or the node is 1.
+    /// Returns the operation that makes 1 where the source or the node is 1. If the node isn't
+    /// made, it reads its inverse.
     fn or(&self, by: Source, node: Node) -> Operation {
         if self.made[node.number()] {
             Operation::Or(by, node.source())
@@ -110,7 +112,8 @@ impl Wanted {
         }
     }
 
-    /// 1 if the source and the node are 1.
+    /// Returns the operation that makes 1 where the source and the node are 1. If the node isn't
+    /// made, it reads its inverse.
     fn and(&self, by: Source, node: Node) -> Operation {
         if self.made[node.number()] {
             Operation::And(by, node.source())
@@ -119,7 +122,8 @@ impl Wanted {
         }
     }
 
-    /// The node if `by` is 1, and `low` if it is 0.
+    /// Returns the operation that makes the node where `by` is 1, and `low` where it is 0. If the
+    /// node isn't made, it reads its inverse.
     fn choice(&self, by: Source, low: Source, node: Node) -> Operation {
         if self.made[node.number()] {
             let high = node.source();

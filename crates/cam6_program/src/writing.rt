@@ -5,7 +5,7 @@ ghost use Rattle.cam6_program.specs.declared.nodes.TheConstants.{NODES, PLACES};
 ghost use Rattle.cam6_program.specs.declared.programs.TheConstants.{MAX_STEPS};
 
 use crate::building::Diagram;
-use crate::counting::{COUNTERS, counter, result_of};
+use crate::counting::{COUNTERS, counter, node_of_operation};
 use crate::nodes::{NODES, Node};
 use crate::programs::{MAX_SLOTS, MAX_STEPS, Program};
 use crate::steps::{Operation, Source, Step};
@@ -33,11 +33,11 @@ struct Writer {
 }
 
 /// Returns the program of a diagram, or `None` if it needs too many slots.
-pub(crate) fn written(diagram: &Diagram) -> Option<Program>
+pub(crate) fn write_program(diagram: &Diagram) -> Option<Program>
     requires { diagram.now.count ≤ PLACES }
 {
-    let lower = given(diagram.lower, Source::Line(0));
-    let upper = given(diagram.upper, Source::Line(1));
+    let lower = source_of_level(diagram.lower, Source::Line(0));
+    let upper = source_of_level(diagram.upper, Source::Line(1));
     let mut writer = Writer::of(diagram);
     writer.expect_level(lower);
     writer.expect_level(upper);
@@ -48,13 +48,14 @@ pub(crate) fn written(diagram: &Diagram) -> Option<Program>
     writer.program(lower, upper)
 }
 
-/// What a level is read from. A level that its own line shows is kept, and has none.
-fn given(node: Node, own: Source) -> Option<Source> {
+/// Returns the source from which a level is read. Returns `None` if it is `own`, the source of the
+/// cells' own bits: then the level is kept.
+fn source_of_level(node: Node, own: Source) -> Option<Source> {
     let source = node.source();
     if source == own { None } else { Some(source) }
 }
 
-/// What makes each node of a diagram.
+/// Returns the operation that makes each node of a diagram, by the node's number.
 fn operations(diagram: &Diagram) -> [Operation; NODES]
     requires { diagram.now.count ≤ PLACES }
 {
@@ -68,14 +69,14 @@ fn operations(diagram: &Diagram) -> [Operation; NODES]
     }
     for place in 0..COUNTERS {
         if place < diagram.counters {
-            operations[result_of(place).number()] = counter(place);
+            operations[node_of_operation(place).number()] = counter(place);
         }
     }
     operations
 }
 
 impl Writer {
-    /// A writer that has written no step, and expects no source to be read.
+    /// Makes a writer that has written no step, and expects no source to be read.
     fn of(diagram: &Diagram) -> Writer
         requires { diagram.now.count ≤ PLACES }
         ensures { result.count ≤ MAX_STEPS }
@@ -91,7 +92,8 @@ impl Writer {
         }
     }
 
-    /// Notes that what a level is read from will be read at the end.
+    /// Notes that a level's source will be read at the end. Without a source there is nothing to
+    /// note.
     fn expect_level(&mut self, level: Option<Source>)
         ensures { self.new.count ≡ self.old.count }
     {
@@ -100,8 +102,8 @@ impl Writer {
         }
     }
 
-    /// Notes what the nodes that are read will read, from the last one to the first. Each stands
-    /// after what it reads.
+    /// Notes every source that the nodes' operations will read, from the last node to the first.
+    /// Only nodes that are read themselves count. Each node stands after those that it reads.
     fn expect_reads(&mut self)
         ensures { self.new.count ≡ self.old.count }
     {
@@ -125,20 +127,22 @@ impl Writer {
         }
     }
 
-    /// Writes the operations that count lines in their order, which needs the fewest slots.
+    /// Writes the steps of the first `counters` operations that count lines, in their order, which
+    /// needs the fewest slots. Leaves out those that nothing reads.
     fn write_counters(&mut self, counters: usize)
         requires { self.old.count ≤ MAX_STEPS }
         ensures { self.new.count ≤ MAX_STEPS }
     {
         for place in 0..COUNTERS {
-            let number = result_of(place).number();
+            let number = node_of_operation(place).number();
             if place < counters && self.reads[number] > 0 && self.count < MAX_STEPS {
                 self.put_step(number, self.operations[number]);
             }
         }
     }
 
-    /// Writes what a level is read from, and returns where it is.
+    /// Writes the steps of the node that a level is read from. Returns the level's source, with the
+    /// node replaced by its slot, or `None` without a source.
     fn write_level(&mut self, level: Option<Source>) -> Option<Source>
         requires { self.old.count ≤ MAX_STEPS }
         ensures { self.new.count ≤ MAX_STEPS }
@@ -150,7 +154,8 @@ impl Writer {
         Some(self.in_slot(source))
     }
 
-    /// Writes the step of a node, after those of all that it reads, unless it is written already.
+    /// Writes the step of node `number`, after those of all nodes that it reads. Writes nothing if
+    /// the step is written already.
     fn write_node(&mut self, number: usize)
         requires number { number < NODES }
         requires count { self.old.count ≤ MAX_STEPS }
@@ -172,7 +177,8 @@ impl Writer {
         }
     }
 
-    /// Puts the step of a node. The slots that it reads are not yet free for what it makes.
+    /// Adds the step of node `number` to the program. Picks a free slot for it. The slots that it
+    /// reads are not yet free then.
     fn put_step(&mut self, number: usize, operation: Operation)
         requires number { number < NODES }
         requires count { self.old.count < MAX_STEPS }
@@ -192,7 +198,7 @@ impl Writer {
         }
     }
 
-    /// The first slot that nobody needs.
+    /// Returns the first slot that no later step reads, or 255 if there is none.
     fn free_slot(&self) -> u8 {
         for slot in 0..u8::MAX {
             if self.is_free[usize::from(slot)] {
@@ -202,7 +208,7 @@ impl Writer {
         u8::MAX
     }
 
-    /// Notes that a source has been read once. Frees a slot that nobody will read any more.
+    /// Notes that a source has been read once. Frees a slot that nothing will read any more.
     fn note_read(&mut self, source: Source)
         ensures { self.new.count ≡ self.old.count }
     {
@@ -217,7 +223,7 @@ impl Writer {
         }
     }
 
-    /// The operation with each node that it reads replaced by its slot.
+    /// Returns the operation with each node that it reads replaced by the node's slot.
     fn in_slots(&self, operation: Operation) -> Operation {
         match operation {
             Operation::Choice { by, low, high } => Operation::Choice {
@@ -248,7 +254,7 @@ impl Writer {
         }
     }
 
-    /// The source with a node replaced by its slot.
+    /// Returns the source with a node replaced by its slot.
     fn in_slot(&self, source: Source) -> Source {
         match source {
             Source::Slot(number) => {
@@ -258,8 +264,8 @@ impl Writer {
         }
     }
 
-    /// Returns the program whose levels are read from these sources, or `None` if it needs more
-    /// than `MAX_SLOTS` slots. A level without a source keeps the bits of its plane.
+    /// Returns the program whose levels are read from these sources. Returns `None` if it needs
+    /// more than `MAX_SLOTS` slots. A level without a source is kept.
     fn program(self, lower: Option<Source>, upper: Option<Source>) -> Option<Program>
         requires { self.count ≤ MAX_STEPS }
     {
@@ -277,7 +283,7 @@ impl Writer {
     }
 }
 
-/// The mask of the line that a source reads, if it reads one.
+/// Returns the mask of the line that a source reads, or 0 if it reads no line.
 fn asked_by(source: Option<Source>) -> u16 {
     match source {
         Some(Source::Line(line)) => 1 << (line & 15),
@@ -285,7 +291,7 @@ fn asked_by(source: Option<Source>) -> u16 {
     }
 }
 
-/// The sources that an operation reads. If it reads two, the third is the constant 0.
+/// Returns the sources that an operation reads. If it reads two, the third is the constant 0.
 fn sources(operation: Operation) -> [Source; 3] {
     match operation {
         Operation::Choice { by, low, high } | Operation::ChoiceNot { by, low, high } => {

@@ -5,7 +5,7 @@ use Rattle.cam6_wiring.specs.Lines.{at_column}
 use Rattle.cam6_program.specs.Meaning.{put_into}
 use Rattle.cam6_program.specs.Running.{written_after}
 use Rattle.cam6_program.proofs.Columns.{step_in_order}
-use Rattle.cam6_program.proofs.running.take_step.Goals as goal
+use Rattle.cam6_program.proofs.running.run_step.Goals as goal
 
 pub returns-clause-step : goal.returns-clause-step
 returns-clause-step c = λ x h.

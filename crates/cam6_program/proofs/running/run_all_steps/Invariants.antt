@@ -2,7 +2,7 @@ use Rattle.std.proofs.Common.{◌≡◌, ℕ, ◌<◌, ◌≤◌, ◌*◌, [], d
 use Rattle.cam6_wiring.specs.Lines.{at_column}
 use Rattle.cam6_program.specs.Meaning.{after_steps}
 use Rattle.cam6_program.specs.declared.programs.TheConstants.{MAX_SLOTS}
-use Rattle.cam6_program.proofs.running.take_all.Given as goal
+use Rattle.cam6_program.proofs.running.run_all_steps.Given as goal
 
 abbrev pub invariant-loop-k : goal.invariant-loop-k
 invariant-loop-k l = record {

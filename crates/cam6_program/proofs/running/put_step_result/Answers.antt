@@ -6,7 +6,7 @@ use Rattle.cam6_program.specs.Limits.{max_slots}
 use Rattle.cam6_program.specs.Meaning.{made}
 use Rattle.cam6_program.specs.Running.{written_after}
 use Rattle.cam6_program.proofs.Columns.{made_beside}
-use Rattle.cam6_program.proofs.running.put_beside.Goals as goal
+use Rattle.cam6_program.proofs.running.put_step_result.Goals as goal
 
 pub returns-then-into-written : goal.returns-then-into-written
 returns-then-into-written c = λ x h.
