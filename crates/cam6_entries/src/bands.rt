@@ -36,8 +36,8 @@ pub struct Written {
 /// The mask of all twelve lines.
 const ALL_LINES: u16 = 4095;
 
-/// The mask of the lines that new rows are made of: those for which the program asks, or all of
-/// them without a program.
+/// Returns the mask of the lines that new rows are made of: those for which the program asks, or
+/// all lines without a program.
 pub(crate) fn asked_by(program: &Option<Program>) -> u16
     ensures { result ≡ asked_by program.now }
 {
@@ -48,9 +48,10 @@ pub(crate) fn asked_by(program: &Option<Program>) -> u16
 }
 
 impl Table {
-    /// Makes the new rows of both planes of a half, for the sixteen rows of a band. Each cell gets
-    /// its bit of the entry at the address that it shows. A plane in which every cell keeps its bit
-    /// may stay unwritten. Words past the side may hold anything. So may the scratch before.
+    /// Writes the new rows of both planes of a half, for the sixteen rows of a band. Each cell gets
+    /// its bit of the entry at its address. Returns which planes are written: a plane in which
+    /// every cell keeps its bit may stay unwritten. Words past the side may hold anything. So may
+    /// the scratch before.
     pub fn band(
         &self,
         scratch: &mut TableScratch,
@@ -71,7 +72,7 @@ impl Table {
         if let Some(plan) = &self.plan
             && plan.is_for(asked, hood, minor)
         {
-            return by_plan(
+            return write_by_plan(
                 scratch,
                 &self.entries,
                 &self.program,
@@ -83,7 +84,7 @@ impl Table {
             );
         }
         let plan = Plan::of(ALL_LINES, hood, minor);
-        by_plan(
+        write_by_plan(
             scratch,
             &self.entries,
             &None,
@@ -96,8 +97,9 @@ impl Table {
     }
 }
 
-/// Makes the new rows under a plan's wiring: by the program, or by look-ups without a program.
-fn by_plan(
+/// Writes the new rows of both planes under a plan's wiring: by the program, or by look-ups without
+/// a program. Returns which planes are written.
+fn write_by_plan(
     scratch: &mut TableScratch,
     entries: &[u8],
     program: &Option<Program>,
@@ -120,9 +122,9 @@ fn by_plan(
         Upper result.upper upper.new }
 {
     match program {
-        Some(program) => by_program(scratch, program, plan, lower, upper, setting, band),
+        Some(program) => write_by_program(scratch, program, plan, lower, upper, setting, band),
         None => {
-            by_look_ups(
+            write_by_look_ups(
                 &mut scratch.lines,
                 entries,
                 plan,
@@ -139,10 +141,10 @@ fn by_plan(
     }
 }
 
-/// Makes the new rows unit by unit, by look-ups. It is not inlined: its own room on the stack is
-/// emptied when it is entered, and a program does not need it.
+/// Writes the new rows of both planes unit by unit, by look-ups in the entries. It is not inlined:
+/// its own room on the stack is emptied when it is entered, and a program does not need it.
 #[inline(never)]
-fn by_look_ups(
+fn write_by_look_ups(
     scratch: &mut UnitLines,
     entries: &[u8],
     plan: &Plan,
@@ -170,8 +172,9 @@ fn by_look_ups(
     }
 }
 
-/// Makes the new rows by a program. A plane in which the program keeps every bit is not written.
-fn by_program(
+/// Writes the new rows by a program. Returns which planes are written. A plane in which the program
+/// keeps every bit is not written.
+fn write_by_program(
     scratch: &mut TableScratch,
     program: &Program,
     plan: &Plan,
@@ -193,15 +196,16 @@ fn by_program(
         else f (plane_of setting.now.half Upper) x (band.now.first + r))
         ≡ bit_by Upper program.now (seen_by plan.now setting.now f band.now r x) }
 {
-    by_units(scratch, program, plan, lower, upper, setting, band);
+    write_by_units(scratch, program, plan, lower, upper, setting, band);
     Written {
         lower: !program.keeps(Level::Lower),
         upper: !program.keeps(Level::Upper),
     }
 }
 
-/// Makes the new rows unit by unit. A level that is kept is not written.
-fn by_units(
+/// Writes the new rows by a program, one unit after the other. A plane in which the program keeps
+/// every bit is not written.
+fn write_by_units(
     scratch: &mut TableScratch,
     program: &Program,
     plan: &Plan,
@@ -232,7 +236,7 @@ fn by_units(
     }
 }
 
-/// Row `r` of a band. Words past the side may hold anything.
+/// Returns row `r` of a band, whose rows lie unit by unit. Words past the side may hold anything.
 #[inline(always)]
 pub fn row_of(units: &BandRows, side: Side, r: usize) -> Row
     requires { r < height }

@@ -11,8 +11,8 @@ ghost use Rattle.cam6_entries.specs.Programs.{ComputesUnder, without_lines_8_and
 use cam6_program::Program;
 use cam6_wiring::Hood;
 
-/// Returns a program that makes the entries' bits of whatever a cell sees under a neighbourhood, or
-/// `None` if it finds no short one. Does not allocate.
+/// Returns a program that makes the lowest two bits of the entry at each address that a cell can
+/// have under this neighbourhood. Returns `None` if it finds no short one. Does not allocate.
 pub(crate) fn program_under(entries: &[u8], hood: Hood) -> Option<Program>
     requires { length entries.now ≡ addresses }
     ensures { IfSome result (λ program. (minor : Minor) →
@@ -26,7 +26,8 @@ pub(crate) fn program_under(entries: &[u8], hood: Hood) -> Option<Program>
     }
 }
 
-/// The entries with each replaced by the one at the address that shows 0 on lines 8 and 9.
+/// Returns entries that don't depend on lines 8 and 9. Each is the entry at the address with 0 on
+/// these lines.
 fn without_lines_8_and_9(entries: &[u8]) -> [u8; 4096]
     requires { length entries.now ≡ addresses }
     ensures { (address : ℕ) → address < addresses →

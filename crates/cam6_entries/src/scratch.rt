@@ -12,7 +12,7 @@ pub struct TableScratch {
 }
 
 impl TableScratch {
-    /// Scratch for the bands of any table.
+    /// Makes scratch for the bands of any table.
     pub fn blank() -> TableScratch {
         TableScratch {
             lines: UnitLines::blank(),

@@ -71,7 +71,7 @@ impl Table {
         ENTRIES
     }
 
-    /// The entry at an address.
+    /// Returns the entry at an address.
     pub fn at(&self, address: u16) -> u8
         requires { address < ENTRIES }
         ensures { result ≡ slice_index self.now address }
@@ -79,7 +79,8 @@ impl Table {
         self.entries[usize::from(address)]
     }
 
-    /// Writes the entry at an address. A cell gets only the entry's two lowest bits.
+    /// Writes the entry at an address, and removes the table's program if there is one. A cell gets
+    /// only the entry's two lowest bits.
     pub fn put(&mut self, address: u16, entry: u8)
         requires { address < ENTRIES }
         ensures { self.new ≡ slice_set self.old address entry }
@@ -92,8 +93,8 @@ impl Table {
         }
     }
 
-    /// Writes both planes' new rows: at each column the plane's bit of the entry at the address
-    /// that the lines show there. Words past the side may hold anything.
+    /// Writes both planes' new rows. At each column a plane gets its bit of the entry at the
+    /// address that the lines show there. Words past the side may hold anything.
     pub fn look_up(&self, lower: &mut Row, upper: &mut Row, lines: &Lines, side: Side)
         ensures lower { (x : ℕ) → x < side_number side → column_bit lower.new x
             ≡ bit_for Lower (slice_index self.now (address_in lines.now x)) }
@@ -104,9 +105,9 @@ impl Table {
     }
 
     /// Gives the table a program, if its entries have a short one, and a plan of the lines for this
-    /// neighbourhood and minor assignment. Both make bands faster under this wiring, and nothing
-    /// under others. Copies of the table get them too. Writing an entry removes the program. Does not
-    /// allocate.
+    /// neighbourhood and minor assignment. Both make bands faster under this wiring, and change
+    /// nothing under others. Copies of the table get them too. Writing an entry removes the
+    /// program. Does not allocate.
     pub fn quicken(&mut self, hood: Hood, minor: Minor)
         ensures { self.new ≡ self.old }
     {
@@ -114,7 +115,7 @@ impl Table {
         self.plan = Some(Plan::of(asked_by(&self.program), hood, minor));
     }
 
-    /// Makes the table a copy of another one. Does not allocate.
+    /// Makes the table a copy of another one, with its program and plan. Does not allocate.
     pub fn copy_from(&mut self, other: &Table)
         ensures { self.new ≡ other.now }
     {

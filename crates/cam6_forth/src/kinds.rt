@@ -36,7 +36,7 @@ pub(crate) enum Kind {
     Other,
 }
 
-/// The kind of a token. Empty or unknown tokens are `Other`, and so are digits with a sign.
+/// Returns the kind of a token. Empty or unknown tokens are `Other`, and so are digits with a sign.
 #[tactic(auto, unfolding(crate::specs::Kinds::kind_of))]
 pub(crate) fn kind_of(token: &[u8]) -> Kind
     ensures { result ≡ kind_of token.now }
@@ -56,14 +56,15 @@ pub(crate) fn kind_of(token: &[u8]) -> Kind
     }
 }
 
-/// A comment ends at any token that ends in `)`.
+/// Whether a token ends a comment: it is any token that ends in `)`.
 pub(crate) fn ends_comment(token: &[u8]) -> bool
     ensures { result ≡ ends_comment token.now }
 {
     !token.is_empty() && token[token.len() - 1] == b')'
 }
 
-/// The kind of a token that is a mark, IF, ELSE or THEN. Returns `None` for any other token.
+/// Returns the kind of a token that is a mark, IF, ELSE or THEN. Returns `None` for any other
+/// token.
 #[tactic(auto, unfolding(crate::specs::Kinds::mark))]
 fn mark(token: &[u8]) -> Option<Kind>
     ensures { result ≡ mark token.now }
@@ -94,7 +95,7 @@ fn is_digits(token: &[u8]) -> bool
     !token.is_empty()
 }
 
-/// The value of digits, or `None` if it is above the largest literal.
+/// Returns the value of decimal digits, or `None` if it is above the largest literal.
 #[tactic(auto, using(crate::proofs::Values::digit_steps), unfolding(crate::specs::Kinds::literal))]
 fn literal(digits: &[u8]) -> Option<u16>
     requires digits { is_digits digits.now ≡ true }

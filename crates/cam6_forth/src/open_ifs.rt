@@ -24,7 +24,7 @@ impl Model for OpenIfs {
 }
 
 impl OpenIfs {
-    /// No open IF, as at the start of a definition.
+    /// Makes an empty list: no IF is open, as at the start of a definition.
     pub(crate) fn new() -> Self
         ensures { result ≡ [] }
     {
@@ -42,7 +42,7 @@ impl OpenIfs {
         self.len
     }
 
-    /// Adds an open IF, inside the others. `has_else` is whether its ELSE has come.
+    /// Adds an open IF, inside the others. `has_else` says whether its ELSE has been read.
     pub(crate) fn push(&mut self, has_else: bool)
         requires fits { length self.old < MAX_OPEN_IFS }
         ensures { self.new ≡ has_else ∷ self.old }
@@ -51,7 +51,7 @@ impl OpenIfs {
         self.len += 1;
     }
 
-    /// Takes the innermost one off, and returns whether its ELSE has come.
+    /// Removes the innermost open IF, and returns whether its ELSE has been read.
     pub(crate) fn pop(&mut self) -> bool
         requires not_empty { 0 < length self.old }
         ensures { self.old ≡ result ∷ self.new }

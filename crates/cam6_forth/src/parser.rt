@@ -18,8 +18,8 @@ use crate::tokens::first_token;
 use cam6_wiring::{Half, Hood, Minor, Wiring};
 use std::alloc::Global;
 
-/// Reads a text as a rule for this half, hood and minor. Returns the rule, the text's first fault,
-/// or `NoMemory` if an allocation fails.
+/// Reads a text as a rule for this half, neighbourhood and minor assignment. Returns the rule, the
+/// text's first fault, or `NoMemory` if an allocation fails.
 pub fn parse(
     alloc: Global,
     text: &str,
@@ -46,7 +46,8 @@ pub fn parse(
     parse_under(alloc, text, Wiring { half, hood, minor })
 }
 
-/// As `parse`, for a wiring.
+/// Reads a text as a rule for this wiring. Returns the rule, the text's first fault, or `NoMemory`
+/// if an allocation fails.
 pub fn parse_under(alloc: Global, text: &str, wiring: Wiring) -> Result<Rule, ParseFault>
     // An accepted text is the tree of the rule, and a refused one has the fault.
     ensures accepted { IsAccepted wiring text.now result }
@@ -65,8 +66,8 @@ pub fn parse_under(alloc: Global, text: &str, wiring: Wiring) -> Result<Rule, Pa
     read_text(alloc, text, wiring)
 }
 
-/// Reads a text as a rule, or returns its first fault. A text that is too long has it at token 0.
-/// Nothing of such a text is read.
+/// Reads a text as a rule for this wiring. Returns the rule, the text's first fault, or `NoMemory`.
+/// A text that is too long has its fault at token 0, and nothing of it is read.
 #[tactic(auto, unfolding(crate::specs::Reading::read_text))]
 fn read_text(alloc: Global, text: &str, wiring: Wiring) -> Result<Rule, ParseFault>
     ensures exact { IsReadAs (read_text wiring text.now) wiring result }
@@ -93,8 +94,8 @@ fn read_text(alloc: Global, text: &str, wiring: Wiring) -> Result<Rule, ParseFau
     }
 }
 
-/// A fault of the text at a token. Tokens are numbered from 1. Token 0 stands for a text that is
-/// too long.
+/// Returns the fault of a text at a token. Tokens are numbered from 1. Token 0 stands for a text
+/// that is too long.
 fn text_fault(fault: TokenFault, token: u32) -> ParseFault
     ensures { result ≡ Text (record { number = fault_number fault; token = token }) }
 {

@@ -63,7 +63,7 @@ impl Reader {
     ghost use Rattle.cam6_forth.specs.declared.faults.AdvanceFault.TheVariants.{NoMemory};
     ghost use Rattle.cam6_forth.specs.Outcome.{Steps, Finishes};
 
-    /// A reader that has read nothing. Does not allocate.
+    /// Makes a reader that has read nothing. Does not allocate.
     pub(crate) fn new(alloc: Global) -> Self
         ensures { result ≡ beginning }
     {
@@ -94,14 +94,14 @@ impl Reader {
         }
         let kind = kind_of(token);
         match self.context {
-            Context::Outside => self.outside(kind),
-            Context::Naming => self.naming(kind, token),
-            Context::Inside => self.inside(wiring, kind, token),
-            Context::Braces => self.between_braces(wiring, kind, token),
+            Context::Outside => self.read_outside(kind),
+            Context::Naming => self.read_name(kind, token),
+            Context::Inside => self.read_in_body(wiring, kind, token),
+            Context::Braces => self.read_in_braces(wiring, kind, token),
         }
     }
 
-    /// Returns the definitions at the end of the text, or the end's fault.
+    /// Ends the text. Returns its definitions, or the fault of its end.
     pub(crate) fn finish(self) -> Result<Vec<Definition>, TokenFault>
         ensures { Finishes (finish self) result }
     {
@@ -114,9 +114,9 @@ impl Reader {
         }
     }
 
-    /// Reads a token outside definitions, which is `:` or `(`. Any other is out of place. After
-    /// `MAX_DEFINITIONS` definitions a `:` is `TooLong`.
-    fn outside(&mut self, kind: Kind) -> Result<(), AdvanceFault>
+    /// Reads a token outside definitions: `:` begins a definition, and `(` a comment. Any other
+    /// token is `OutOfPlace`. After `MAX_DEFINITIONS` definitions a `:` is `TooLong`.
+    fn read_outside(&mut self, kind: Kind) -> Result<(), AdvanceFault>
         ensures state { Steps (outside self.old kind) self.new result }
         ensures memory { result ≢ Err NoMemory }
     {
@@ -138,7 +138,7 @@ impl Reader {
 
     /// Reads the name of a definition, and begins its body. A reserved token or a name that is
     /// already defined is `NotDefinable`.
-    fn naming(&mut self, kind: Kind, token: &[u8]) -> Result<(), AdvanceFault>
+    fn read_name(&mut self, kind: Kind, token: &[u8]) -> Result<(), AdvanceFault>
         ensures state { Steps (naming self.old kind token.now) self.new result }
         ensures memory { result ≡ Err NoMemory →
             then_so (naming self.old kind token.now) (λ next. is_in_body next.context) ≡ true }
@@ -154,33 +154,34 @@ impl Reader {
         Ok(())
     }
 
-    /// Reads a token of a body outside of braces.
-    fn inside(&mut self, wiring: Wiring, kind: Kind, token: &[u8]) -> Result<(), AdvanceFault>
+    /// Reads a token of a body, outside braces. It may be `;`, `(`, `{`, IF, ELSE, THEN or a single
+    /// word. Returns the token's fault, or `NoMemory`.
+    fn read_in_body(&mut self, wiring: Wiring, kind: Kind, token: &[u8]) -> Result<(), AdvanceFault>
         ensures { Steps (inside wiring self.old kind token.now) self.new result }
     {
         match kind {
-            Kind::Semicolon => self.with_definition(),
+            Kind::Semicolon => self.end_definition(),
             Kind::Open => {
                 self.comment = true;
                 Ok(())
             }
-            Kind::If => self.with_if(),
-            Kind::Else => self.with_else(),
-            Kind::Then => self.with_then(),
+            Kind::If => self.open_if(),
+            Kind::Else => self.read_else(),
+            Kind::Then => self.close_if(),
             Kind::OpenBrace => {
                 self.context = Context::Braces;
                 self.grow(1, Word::Cases)
             }
-            _ => match self.word_of(wiring, kind, token) {
+            _ => match self.single_word_of(wiring, kind, token) {
                 Ok((word, size)) => self.grow(size.into(), Word::Single(word)),
                 Err(fault) => Err(AdvanceFault::Token(fault)),
             },
         }
     }
 
-    /// Reads a token between a body's braces, which is a single word, `(` or `}`. A word's size is
-    /// one more there.
-    fn between_braces(
+    /// Reads a token between a body's braces. `(` opens a comment, `}` ends the cases, and any
+    /// other token has to be a single word. Each of these words counts one more than its size.
+    fn read_in_braces(
         &mut self,
         wiring: Wiring,
         kind: Kind,
@@ -198,15 +199,16 @@ impl Reader {
                 self.words.push(Word::EndCases)?;
                 Ok(())
             }
-            _ => match self.word_of(wiring, kind, token) {
+            _ => match self.single_word_of(wiring, kind, token) {
                 Ok((word, size)) => self.grow(u32::from(size) + 1, Word::Single(word)),
                 Err(fault) => Err(AdvanceFault::Token(fault)),
             },
         }
     }
 
-    /// Opens an IF inside those that are open. Returns `TooManyIfs` if `MAX_OPEN_IFS` are open.
-    fn with_if(&mut self) -> Result<(), AdvanceFault>
+    /// Opens an IF inside those that are open. Returns `TooManyIfs` if `MAX_OPEN_IFS` are open, or
+    /// `TooLarge` if the definition gets too large.
+    fn open_if(&mut self) -> Result<(), AdvanceFault>
         ensures { Steps (with_if self.old) self.new result }
     {
         if self.open_ifs.len() >= MAX_OPEN_IFS {
@@ -216,9 +218,9 @@ impl Reader {
         self.grow(1, Word::If)
     }
 
-    /// Reads the ELSE of the innermost open IF. It is out of place if no IF is open, or if this one
-    /// has an ELSE already.
-    fn with_else(&mut self) -> Result<(), AdvanceFault>
+    /// Reads the ELSE of the innermost open IF. The ELSE is `OutOfPlace` if no IF is open, or if
+    /// this one has an ELSE already.
+    fn read_else(&mut self) -> Result<(), AdvanceFault>
         ensures { Steps (with_else self.old.open_ifs self.old) self.new result }
     {
         if self.open_ifs.len() == 0 || self.open_ifs.pop() {
@@ -228,8 +230,8 @@ impl Reader {
         self.grow(1, Word::Else)
     }
 
-    /// Closes the innermost open IF. A THEN is out of place if none is open.
-    fn with_then(&mut self) -> Result<(), AdvanceFault>
+    /// Reads a THEN, which closes the innermost open IF. The THEN is `OutOfPlace` if no IF is open.
+    fn close_if(&mut self) -> Result<(), AdvanceFault>
         ensures { Steps (with_then self.old.open_ifs self.old) self.new result }
     {
         if self.open_ifs.len() == 0 {
@@ -240,8 +242,9 @@ impl Reader {
         Ok(())
     }
 
-    /// Ends the definition. The `;` is out of place if an IF is open.
-    fn with_definition(&mut self) -> Result<(), AdvanceFault>
+    /// Reads a `;`, which ends the definition and adds it to the others. The `;` is `OutOfPlace` if
+    /// an IF is open.
+    fn end_definition(&mut self) -> Result<(), AdvanceFault>
         ensures { Steps (with_definition self.old.open_ifs self.old) self.new result }
     {
         if self.open_ifs.len() != 0 {
@@ -255,8 +258,8 @@ impl Reader {
         Ok(())
     }
 
-    /// Adds a word of this size. If the definition gets too large, returns `TooLarge` and adds
-    /// nothing.
+    /// Adds a word to the body, and this size to the definition's size. If the definition gets too
+    /// large, returns `TooLarge` and adds nothing.
     fn grow(&mut self, size: u32, word: Word) -> Result<(), AdvanceFault>
         ensures { Steps (grown size word self.old) self.new result }
     {
@@ -269,8 +272,9 @@ impl Reader {
         Ok(())
     }
 
-    /// The word that a token says by itself, with its size, or the token's fault.
-    fn word_of(
+    /// Returns the single word that a token of this kind is, and how much it adds to a definition's
+    /// size outside braces. Returns the token's fault if it is no single word.
+    fn single_word_of(
         &self,
         wiring: Wiring,
         kind: Kind,
@@ -307,8 +311,8 @@ impl Reader {
     }
 }
 
-/// Returns the position of the first definition with this name, counted from 0, and its size.
-/// Returns `None` if there is none.
+/// Returns the index of the first definition whose name is this token, and its size. Returns `None`
+/// if there is none.
 fn definition_at(token: &[u8], definitions: &[Definition]) -> Option<(usize, u16)>
     ensures { result ≡ definition_at token.now definitions.now }
 {

@@ -43,7 +43,7 @@ impl Model for Rule {
 impl Rule {
     ghost use Rattle.cam6_forth.specs.Tree.{IsOfTree};
 
-    /// The rule of these definitions. They must be those of a well-formed tree.
+    /// Makes the rule of these definitions. They must be those of a well-formed tree.
     pub(crate) fn new(wiring: Wiring, definitions: Vec<Definition>) -> Rule
         requires definitions { IsOfTree
             (record { wiring = wiring; definitions = definitions.items }) }
@@ -55,14 +55,14 @@ impl Rule {
         }
     }
 
-    /// The half, hood and minor that the rule is written for.
+    /// The half, neighbourhood and minor assignment that the rule is written for.
     pub fn wiring(&self) -> Wiring
         ensures { result ≡ self.now.wiring }
     {
         self.wiring
     }
 
-    /// The definitions in their order. The last one is the rule.
+    /// The definitions in their order. The last one is the rule itself.
     pub fn definitions(&self) -> &[Definition]
         ensures definitions { result.now ≡ self.now.definitions }
         ensures tree { IsOfTree self.now }

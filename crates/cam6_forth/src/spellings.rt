@@ -6,7 +6,7 @@ ghost use Rattle.cam6_forth.specs.Spellings.{primed_name, block_name, added_name
 use crate::words::{Output, StackWord, Target};
 use cam6_wiring::{Compass, Half, Level, Name, Rotation};
 
-/// The stack word that a token spells, in capitals, or `None` for any other token.
+/// Returns the stack word that a token is, in capitals, or `None` for any other token.
 #[tactic(auto, unfolding(crate::specs::Spellings::stack_word))]
 pub(crate) fn stack_word(token: &[u8]) -> Option<StackWord>
     ensures { result ≡ stack_word token.now }
@@ -31,7 +31,7 @@ pub(crate) fn stack_word(token: &[u8]) -> Option<StackWord>
     }
 }
 
-/// An output word of either half, or `None` for any other token.
+/// Returns the output word that a token is, of either half, or `None` for any other token.
 #[tactic(auto, unfolding(crate::specs::Spellings::output_word))]
 pub(crate) fn output_word(token: &[u8]) -> Option<Output>
     ensures { result ≡ output_word token.now }
@@ -54,7 +54,8 @@ pub(crate) fn output_word(token: &[u8]) -> Option<Output>
     Some(Output { half, target })
 }
 
-/// A neighbour name, of whichever hood or minor.
+/// Returns the neighbour name that a token is, under any neighbourhood or minor assignment, or
+/// `None` for any other token.
 #[tactic(auto, unfolding(crate::specs::Spellings::neighbour_name))]
 pub(crate) fn neighbour_name(token: &[u8]) -> Option<Name>
     ensures { result ≡ neighbour_name token.now }
@@ -66,7 +67,8 @@ pub(crate) fn neighbour_name(token: &[u8]) -> Option<Name>
         .or(minor_name(token))
 }
 
-/// The name of a cell's lower bit by where the cell lies, such as `N.WEST`.
+/// Returns the name of the lower bit of a cell that a token names by its direction, such as
+/// `N.WEST`. Returns `None` for any other token.
 #[tactic(auto, unfolding(crate::specs::Spellings::plain_name))]
 fn plain_name(token: &[u8]) -> Option<Name>
     ensures { result ≡ plain_name token.now }
@@ -95,8 +97,8 @@ fn plain_name(token: &[u8]) -> Option<Name>
     Some(Name::Beside(compass, Level::Lower))
 }
 
-/// The name of a cell's upper bit by where the cell lies, such as `NORTH'`. The diagonal cells have
-/// none.
+/// Returns the name of the upper bit of a cell that a token names by its direction, such as
+/// `NORTH'`. The diagonal cells have none. Returns `None` for any other token.
 #[tactic(auto, unfolding(crate::specs::Spellings::primed_name))]
 fn primed_name(token: &[u8]) -> Option<Name>
     ensures { result ≡ primed_name token.now }
@@ -117,7 +119,8 @@ fn primed_name(token: &[u8]) -> Option<Name>
     Some(Name::Beside(compass, Level::Upper))
 }
 
-/// The name of a bit of another cell of the block, such as `CW` or `OPP'`.
+/// Returns the name of a bit of another cell of the block, such as `CW` or `OPP'`, or `None` for
+/// any other token.
 #[tactic(auto, unfolding(crate::specs::Spellings::block_name))]
 fn block_name(token: &[u8]) -> Option<Name>
     ensures { result ≡ block_name token.now }
@@ -134,8 +137,8 @@ fn block_name(token: &[u8]) -> Option<Name>
     Some(Name::InBlock(rotation, level))
 }
 
-/// A name that only one of the Margolus hoods has. It shows the phase, or where the cell lies in
-/// its block.
+/// Returns a name that only one of the Margolus neighbourhoods has, or `None` for any other token.
+/// Such a name shows the phase, or where the cell lies in its block.
 #[tactic(auto, unfolding(crate::specs::Spellings::added_name))]
 fn added_name(token: &[u8]) -> Option<Name>
     ensures { result ≡ added_name token.now }
@@ -153,7 +156,7 @@ fn added_name(token: &[u8]) -> Option<Name>
     }
 }
 
-/// A name of a minor. Each begins with `&`.
+/// Returns a name of a minor assignment, which begins with `&`, or `None` for any other token.
 #[tactic(auto, unfolding(crate::specs::Spellings::minor_name))]
 fn minor_name(token: &[u8]) -> Option<Name>
     ensures { result ≡ minor_name token.now }

@@ -18,7 +18,8 @@ pub(crate) fn first_token(text: &[u8]) -> Option<(&[u8], &[u8])>
     Some(rest.split_at(run_len(rest)))
 }
 
-/// Returns how many spaces the text begins with. In a text of spaces alone it is their number.
+/// Returns how many spaces, tabs and line ends the text begins with. If it has nothing else,
+/// returns its length.
 fn space_len(text: &[u8]) -> usize
     ensures within { result ≤ length text.now }
     ensures same { tokens (drop result text.now) ≡ tokens text.now }
@@ -31,7 +32,8 @@ fn space_len(text: &[u8]) -> usize
     start
 }
 
-/// Returns how many bytes stand before the first space. Without a space it is all of them.
+/// Returns how many bytes stand before the first space, tab or line end. If there is none, returns
+/// the text's length.
 fn run_len(text: &[u8]) -> usize
     ensures within { result ≤ length text.now }
     ensures parts { slice_split is_space text.now
@@ -45,7 +47,7 @@ fn run_len(text: &[u8]) -> usize
     end
 }
 
-/// Whether a byte is a space, a tab, CR or LF. No other byte parts tokens.
+/// Whether a byte is a space, a tab, CR or LF. No other byte separates tokens.
 fn is_space(byte: u8) -> bool
     ensures { result ≡ is_space byte }
 {

@@ -7,7 +7,7 @@ use Rattle.cam6_lines.specs.Units.{columns, bit_in}
 use Rattle.cam6_program.specs.Meaning.{bit_by}
 use Rattle.cam6_program.specs.Programs.{keeps}
 use Rattle.cam6_entries.specs.Bands.{seen_by}
-use Rattle.cam6_entries.proofs.bands.by_units.Given as goal
+use Rattle.cam6_entries.proofs.bands.write_by_units.Given as goal
 
 abbrev pub invariant-loop-unit : goal.invariant-loop-unit
 invariant-loop-unit l = record {

@@ -5,7 +5,7 @@ use Rattle.cam6_lines.specs.Bands.{IsBandOf, side_of}
 use Rattle.cam6_lines.specs.Limits.{height}
 use Rattle.cam6_lines.specs.Units.{columns, bit_in}
 use Rattle.cam6_entries.specs.Bands.{new_bit}
-use Rattle.cam6_entries.proofs.bands.by_look_ups.Given as goal
+use Rattle.cam6_entries.proofs.bands.write_by_look_ups.Given as goal
 
 abbrev pub invariant-loop-unit : goal.invariant-loop-unit
 invariant-loop-unit l = record {

@@ -14,7 +14,7 @@ use Rattle.cam6_program.specs.Programs.{number}
 use Rattle.cam6_entries.specs.Bands.{new_bit, seen_by, all_lines}
 use Rattle.cam6_entries.proofs.BandRows.{unit_more, place_within, two_units}
 use Rattle.cam6_entries.proofs.LookedUp.{looked_up}
-use Rattle.cam6_entries.proofs.bands.by_look_ups.Goals as goal
+use Rattle.cam6_entries.proofs.bands.write_by_look_ups.Goals as goal
 
 pub loop-unit-preserved : goal.loop-unit-preserved
 loop-unit-preserved c =

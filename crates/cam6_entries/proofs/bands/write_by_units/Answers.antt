@@ -10,7 +10,7 @@ use Rattle.cam6_lines.specs.Units.{columns, place, asked_for}
 use Rattle.cam6_program.specs.Meaning.{bit_by}
 use Rattle.cam6_entries.specs.Bands.{seen_by}
 use Rattle.cam6_entries.proofs.BandRows.{unit_more, place_within, two_units}
-use Rattle.cam6_entries.proofs.bands.by_units.Goals as goal
+use Rattle.cam6_entries.proofs.bands.write_by_units.Goals as goal
 
 pub loop-unit-preserved : goal.loop-unit-preserved
 loop-unit-preserved c =
