@@ -154,9 +154,9 @@ fn put_east<const W: usize>(part: &mut SeenRows, side: Side, p: usize, band: &Ba
     put_beside::<W>(part, side, Compass::East, p, band, unit);
 }
 
-/// Writes to all eighteen rows of `part`, at each column of the unit, the bit of plane `p` in this
-/// direction: the centre, west or east. The first row and the last one lie outside the band, so
-/// they are written apart from the others.
+/// Writes to all eighteen rows of `part` the bits of plane `p` in this direction from the unit's
+/// columns. The direction is the centre, west or east. The first row and the last one lie outside
+/// the band, so they are written apart from the others.
 #[inline(always)]
 fn put_beside<const W: usize>(
     part: &mut SeenRows,
@@ -209,9 +209,9 @@ fn put_row_beside<const W: usize>(
     put_row::<W>(part, W * j, seen_beside(side, compass, p, band, unit, j));
 }
 
-/// Writes to rows 1 to 16 of `part` the bits of plane `p` that the cells in the unit's columns see
-/// at this rotation in their blocks of the even grid. The columns of a block lie in one word. Each
-/// inner call gets the grid and the rotation as constants, so its loop is compiled for them alone.
+/// Writes to rows 1 to 16 of `part` what the unit's cells see of plane `p` at this rotation in
+/// their blocks of the even grid. The columns of a block lie in one word. Each inner call gets the
+/// grid and the rotation as constants, so its loop is compiled for them alone.
 #[inline(never)]
 fn put_in_even_blocks<const W: usize>(
     part: &mut SeenRows,
@@ -271,8 +271,8 @@ fn put_in_even_blocks<const W: usize>(
     }
 }
 
-/// Writes to rows 1 to 16 of `part` the bits of plane `p` that the cells in the unit's columns see
-/// at this rotation in their blocks of the odd grid. The columns of some blocks lie in two words.
+/// Writes to rows 1 to 16 of `part` what the unit's cells see of plane `p` at this rotation in
+/// their blocks of the odd grid. The columns of some blocks lie in two words.
 #[inline(never)]
 fn put_in_odd_blocks<const W: usize>(
     part: &mut SeenRows,
@@ -332,8 +332,8 @@ fn put_in_odd_blocks<const W: usize>(
     }
 }
 
-/// Writes to rows 1 to 16 of `part` the bits of plane `p` that the cells in the unit's columns see
-/// at this rotation in their blocks. The band has to be eight whole rows of blocks.
+/// Writes to rows 1 to 16 of `part` what the unit's cells see of plane `p` at this rotation in
+/// their blocks. The band has to be eight whole rows of blocks.
 #[inline(always)]
 fn put_from_upper<const W: usize>(
     part: &mut SeenRows,
@@ -359,9 +359,9 @@ fn put_from_upper<const W: usize>(
     }
 }
 
-/// Writes to rows 1 to 16 of `part` the bits of plane `p` that the cells in the unit's columns see
-/// at this rotation in their blocks. The band's first row has to share its blocks with the row to
-/// the band's north, and its last one with the row to its south.
+/// Writes to rows 1 to 16 of `part` what the unit's cells see of plane `p` at this rotation in
+/// their blocks. The band's first row has to share its blocks with the row to its north, and the
+/// last row with the row to its south.
 #[inline(always)]
 fn put_from_lower<const W: usize>(
     part: &mut SeenRows,
@@ -388,10 +388,9 @@ fn put_from_lower<const W: usize>(
     }
 }
 
-/// Writes rows `j` and `j + 1` of `part`, the upper and the lower row of the same blocks: the bits
-/// of plane `p` that the cells in the unit's columns see at this rotation. Both rows are made
-/// before the first is written, so that what they look at is fetched once. Earlier rows stay as
-/// they are.
+/// Writes rows `j` and `j + 1` of `part`, the upper and the lower row of the same blocks: what the
+/// unit's cells see of plane `p` at this rotation in their blocks. Both rows are made before the
+/// first is written, so that what they look at is fetched once. Earlier rows stay as they are.
 #[inline(always)]
 fn write_block_rows<const W: usize>(
     part: &mut SeenRows,
@@ -421,9 +420,9 @@ fn write_block_rows<const W: usize>(
     put_row::<W>(part, W * (j + 1), lower);
 }
 
-/// Writes row `j` of `part`: the bits of plane `p` that the cells in the unit's columns see at this
-/// rotation in their blocks. `lower` says whether row `j` is the lower row of its blocks. Earlier
-/// rows stay as they are.
+/// Writes row `j` of `part`: what the unit's cells see of plane `p` at this rotation in their
+/// blocks. `lower` says whether row `j` is the lower row of its blocks. Earlier rows stay as they
+/// are.
 #[inline(always)]
 fn write_block_row<const W: usize>(
     part: &mut SeenRows,

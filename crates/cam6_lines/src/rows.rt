@@ -94,9 +94,9 @@ pub(crate) fn is_lower(grid: Grid, band: &Band, j: usize) -> bool
     side_in_block(grid, band.first + j - 1) == 1
 }
 
-/// Returns the bits of plane `p` that the cells in the unit's columns see at this rotation in their
-/// blocks, in row `j` of a part. `lower` says whether row `j` is the lower row of its blocks. The
-/// other row lies to the south of the upper one, and to the north of the lower one.
+/// Returns what the unit's cells in row `j` of a part see of plane `p` at this rotation in their
+/// blocks. `lower` says whether row `j` is the lower row of its blocks. The other row lies to the
+/// south of the upper one, and to the north of the lower one.
 #[inline(always)]
 pub(crate) fn seen_in_block(
     side: Side,
@@ -190,8 +190,7 @@ fn by_sides(grid: Grid, left: UnitRow, right: UnitRow) -> UnitRow
     ]
 }
 
-/// Returns, at each column of the unit, the bit of plane `p` that lies in this direction from the
-/// cell in row `j` of a part.
+/// Returns what the unit's cells in row `j` of a part see of plane `p` in this direction.
 #[inline(always)]
 pub(crate) fn seen_beside(
     side: Side,
@@ -216,8 +215,8 @@ pub(crate) fn seen_beside(
     columns_beside(row, compass, side, unit)
 }
 
-/// Returns the number of the row of a part that lies in this direction from row `j`: `j - 1` for
-/// the north, `j + 1` for the south, else `j`.
+/// Returns the number of the row of a part that lies in this direction from row `j`. It is `j - 1`
+/// to the north, `j + 1` to the south, and else `j`.
 #[inline(always)]
 fn row_beside(compass: Compass, j: usize) -> usize
     requires first { first_beside compass ≤ j }

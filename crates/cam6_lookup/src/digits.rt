@@ -54,8 +54,8 @@ impl Digit {
         }
     }
 
-    /// Returns the first of two words after their swap. It keeps its positions with the digit 0,
-    /// and gets those of the second word at the others.
+    /// Returns the first of two words after a swap at this digit. At positions with the digit 0 it
+    /// keeps its bits. At the others it gets the second word's bits from `worth` positions below.
     #[inline(always)]
     pub(crate) fn first(self, first: u64, second: u64) -> u64
         ensures kept { (p : ℕ) → p < 64 → digit_of self p ≡ 0 → bit_at result p ≡ bit_at first p }
@@ -66,8 +66,8 @@ impl Digit {
         first & zeros | (second & zeros) << self.worth()
     }
 
-    /// Returns the second word after the swap. It keeps its positions with the digit 1, and gets
-    /// those of the first word at the others.
+    /// Returns the second of two words after a swap at this digit. At positions with the digit 1 it
+    /// keeps its bits. At the others it gets the first word's bits from `worth` positions above.
     #[inline(always)]
     pub(crate) fn second(self, first: u64, second: u64) -> u64
         ensures taken { (p : ℕ) → p < 64 → digit_of self p ≡ 0 →

@@ -122,8 +122,8 @@ pub(crate) fn counting_diagram(entries: &[u8]) -> Result<Diagram, TooLong>
     Ok(diagram)
 }
 
-/// Returns the node by which round `k` joins the entries: lines 0, 1, 10 and 11 in rounds 0 to 3,
-/// and then the bits of the sum, the lowest first.
+/// Returns the node by which round `k` joins the entries. Rounds 0 to 3 use lines 0, 1, 10 and 11.
+/// Rounds 4 to 7 use the bits of the sum, the lowest first.
 fn chosen_by(k: usize) -> Node {
     match k {
         0 => Node::line(0),
@@ -137,9 +137,9 @@ fn chosen_by(k: usize) -> Node {
     }
 }
 
-/// Returns an address with the four lowest bits of `k` on lines 0, 1, 10 and 11, and with as many
-/// ones on lines 2 to 9 as the next four bits say. More than 8 ones never come. They are taken for
-/// 8 less, so that the highest bit seldom matters.
+/// Returns an address for the number `k`. The four lowest bits of `k` are those of lines 0, 1, 10
+/// and 11. The next four say how many of lines 2 to 9 show 1. More than 8 never comes. It is taken
+/// for 8 less, so that the highest bit seldom matters.
 fn counted_address(k: usize) -> usize
     ensures { result < ENTRIES }
 {
