@@ -123,8 +123,8 @@ fn written_after(written: usize, into: usize) -> usize
     }
 }
 
-/// Runs a step over the first `words` words of units. The first `written` slots hold what earlier
-/// steps made. Returns how many slots do after this step.
+/// Runs a step over the first `words` machine words of each unit. The first `written` slots hold
+/// what earlier steps made. Returns how many do after this step.
 #[inline(always)]
 fn run_step(
     step: Step,
@@ -189,10 +189,10 @@ fn write_first(
     }
 }
 
-/// Runs all steps in order over the first `words` words of units, and returns how many slots they
-/// wrote. The slots may hold anything before. Then writes to `out` what `last` would make of its
-/// slot, if there is one. For whole units and for halves the compiler knows the number of words,
-/// which makes the loops over them a third shorter.
+/// Runs all steps in order over the first `words` machine words of each unit, and returns how many
+/// slots they wrote. The slots may hold anything before. Then writes to `out` what `last` would
+/// make of its slot, if there is one. For whole units and for halves the compiler knows the number
+/// of words, which makes the loops over them a third shorter.
 pub(crate) fn run_steps(
     out: &mut Unit,
     steps: &[Step],
@@ -255,8 +255,8 @@ fn run_steps_of_halves(
     run_all_steps(out, steps, last, lines, slots, HALF_UNIT)
 }
 
-/// Runs all steps in order over the first `words` words of units. Then writes to `out` what `last`
-/// would make of its slot, if there is one. Returns how many slots the steps wrote.
+/// Runs all steps in order over the first `words` machine words of each unit. Then writes to `out`
+/// what `last` would make of its slot, if there is one. Returns how many slots the steps wrote.
 #[inline(never)]
 fn run_steps_of_parts(
     out: &mut Unit,
@@ -276,9 +276,9 @@ fn run_steps_of_parts(
     run_all_steps(out, steps, last, lines, slots, words)
 }
 
-/// Runs all steps in order over the first `words` words of units. Then writes to `out` what `last`
-/// would make of its slot, if there is one. Returns how many slots the steps wrote. It is inlined
-/// into the three functions above, for their number of words.
+/// Runs all steps in order over the first `words` machine words of each unit. Then writes to `out`
+/// what `last` would make of its slot, if there is one. Returns how many slots the steps wrote. It
+/// is inlined into the three functions above, for their number of words.
 #[inline(always)]
 fn run_all_steps(
     out: &mut Unit,
