@@ -46,7 +46,7 @@ impl Instructions {
     ghost use Rattle.std.specs.Prelude.{[], ◌∷◌, ◌++◌, ◌+◌, OnOk};
     ghost use Rattle.cam6_table.specs.Codes.{last_of};
 
-    /// No instructions yet. Does not allocate.
+    /// Makes an empty list of instructions. Does not allocate.
     pub fn new(alloc: Global) -> Instructions
         ensures { result ≡ [] }
     {
@@ -62,7 +62,7 @@ impl Instructions {
         self.back_to_front.len()
     }
 
-    /// The instruction before the last `remaining` ones.
+    /// Returns the instruction that is next when `remaining` others are left after it.
     pub fn before(&self, remaining: usize) -> Instruction
         requires { remaining < length self.now }
         ensures { last_of (remaining + 1) self.now ≡ result ∷ last_of remaining self.now }
@@ -70,7 +70,7 @@ impl Instructions {
         self.back_to_front[remaining]
     }
 
-    /// Puts an instruction in front.
+    /// Puts an instruction in front of the others. Fails only if an allocation fails.
     pub fn put(&mut self, instruction: Instruction) -> Result<(), NoMemory>
         ensures new { OnOk result (self.new ≡ instruction ∷ self.old) }
         ensures grows { length self.old ≤ length self.new }
@@ -79,7 +79,8 @@ impl Instructions {
         Ok(())
     }
 
-    /// Puts other instructions in front, in their own order.
+    /// Puts other instructions in front of these, in their own order. Fails only if an allocation
+    /// fails.
     pub fn put_all(&mut self, others: &Instructions) -> Result<(), NoMemory>
         ensures new { OnOk result (self.new ≡ others.now ++ self.old) }
         ensures grows { length self.old ≤ length self.new }
@@ -108,7 +109,7 @@ impl Model for Code {
 }
 
 impl Code {
-    /// The code of these instructions. They must be 4,096 at most.
+    /// Returns the code that has these instructions. They must be 4,096 at most.
     pub(crate) fn new(instructions: Instructions) -> Code
         requires { length instructions ≤ max_eval_steps }
         ensures { result ≡ instructions }
@@ -116,7 +117,7 @@ impl Code {
         Code { instructions }
     }
 
-    /// The instructions, 4,096 at most.
+    /// Lends the instructions of the code, 4,096 at most.
     pub(crate) fn instructions(&self) -> &Instructions
         ensures instructions { result.now ≡ self.now }
         ensures limit { length self.now ≤ max_eval_steps }

@@ -35,8 +35,9 @@ impl From<NoMemory> for NotCompiled {
     }
 }
 
-/// Reads a rule's text, and tries the rule at every address. If the rule stops nowhere, `trial`
-/// becomes its table. Otherwise the entries of `trial` may be anything.
+/// Reads a rule's text as code, and runs the code at every address. If it stops nowhere, returns
+/// it, and `trial` is the rule's table. Otherwise returns why, and the entries of `trial` may be
+/// anything.
 pub fn compile(
     alloc: Global,
     wiring: Wiring,

@@ -27,7 +27,8 @@ impl Code {
     }
 }
 
-/// The code of each definition, in their order. The last one is the code of the rule.
+/// Returns the instructions of each definition, in the order of the definitions. The last are those
+/// of the rule.
 fn codes_of(
     alloc: Global,
     wiring: Wiring,
@@ -44,8 +45,9 @@ fn codes_of(
     Ok(codes)
 }
 
-/// The code of words in a row, given that of the definitions before. It takes the words from the
-/// last to the first, so that what a jump leads over is there before the jump.
+/// Returns the instructions of words in a row. `codes` has those of the definitions before. It
+/// takes the words from the last to the first, so that what a jump leads over is there before the
+/// jump.
 fn code_of(
     alloc: Global,
     wiring: Wiring,
@@ -109,7 +111,8 @@ impl Emitter {
     ghost use Rattle.cam6_table.specs.Internal.Emitting.{with_head, word_code};
     ghost use Rattle.cam6_table.specs.Internal.Emitting.{IsOpen, IsThere, HasCode, HasIts};
 
-    /// Writes one more word in front.
+    /// Writes the instructions of one more word in front. `codes` has those of the definitions
+    /// before.
     fn emit(&mut self, wiring: Wiring, word: Word, codes: &[Instructions]) -> Result<(), NoMemory>
         requires { HasIts wiring codes.now word self.old }
         ensures { OnOk result (self.new ≡ emit wiring codes.now word self.old) }
@@ -127,7 +130,8 @@ impl Emitter {
         }
     }
 
-    /// Notes that an IF or its ELSE leads here.
+    /// Writes no instruction for `THEN`. Notes the place here as the target of the jump of its `IF`
+    /// or `ELSE`.
     fn emit_then(&mut self) -> Result<(), NoMemory>
         ensures { OnOk result (self.new ≡ emit_then self.old) }
     {
@@ -136,7 +140,8 @@ impl Emitter {
         Ok(())
     }
 
-    /// Writes a jump from the first body over the second one. The IF leads to the second one.
+    /// Writes the jump of an `ELSE`: from the end of the first body past the second one. Notes the
+    /// second body as the target of the `IF`.
     fn emit_else(&mut self) -> Result<(), NoMemory>
         requires { IsOpen self.old.landings }
         ensures { OnOk result (self.new ≡ emit_else self.old.landings self.old) }
@@ -151,8 +156,8 @@ impl Emitter {
         Ok(())
     }
 
-    /// Writes the test of the innermost open IF. If the value is 0, it passes the instructions up
-    /// to the landing.
+    /// Writes the jump of the innermost open `IF`. The jump takes the top value off. If it is 0, it
+    /// passes the instructions up to the target.
     fn emit_if(&mut self) -> Result<(), NoMemory>
         requires { IsOpen self.old.landings }
         ensures { OnOk result (self.new ≡ emit_if self.old.landings self.old) }
@@ -164,7 +169,7 @@ impl Emitter {
         self.code.put(Instruction::SkipIfZero(passed))
     }
 
-    /// Opens a case at its end, without words. Writes nothing.
+    /// Begins a case at its closing brace, so far without words. Writes no instruction.
     fn emit_end_cases(&mut self)
         ensures { self.new ≡ emit_end_cases self.old }
     {
@@ -174,7 +179,8 @@ impl Emitter {
         });
     }
 
-    /// Closes the case, and writes the instruction that takes its index.
+    /// Ends the case at its opening brace. Writes the instruction that takes an index off and looks
+    /// for that word.
     fn emit_cases(&mut self) -> Result<(), NoMemory>
         requires { IsThere self.old.case }
         ensures { OnOk result (self.new ≡ emit_cases self.old.case self.old) }
@@ -185,7 +191,8 @@ impl Emitter {
         }
     }
 
-    /// Writes a single word. Between braces it gets a head.
+    /// Writes a single word in front. If a case is open, also writes the head of the case's word
+    /// before it.
     fn emit_word(
         &mut self,
         wiring: Wiring,
@@ -213,7 +220,8 @@ impl Emitter {
         Ok(())
     }
 
-    /// Writes the instructions of a single word, without a head. Those of a definition are copied.
+    /// Writes the instructions of a single word in front, without a head. If the word calls a
+    /// definition, copies the definition's instructions from `codes`.
     fn put_word(
         &mut self,
         wiring: Wiring,

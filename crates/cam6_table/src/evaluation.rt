@@ -39,7 +39,8 @@ pub struct Place {
     pub word: Option<usize>,
 }
 
-/// The place where code starts.
+/// Returns the place where code starts: all instructions are left, and no word of a case is looked
+/// for.
 pub fn start(code: &Instructions) -> Place
     ensures { result ≡ record { remaining = length code.now; word = None } }
 {
@@ -49,8 +50,8 @@ pub fn start(code: &Instructions) -> Place
     }
 }
 
-/// Runs the code from a place on to its end, and changes the state. Returns the fault if it stops
-/// before. `steps` falls by one with each instruction that is done.
+/// Runs the code from a place to its end, and changes the state. Returns the fault if it stops
+/// before its end. `steps` falls by one with each instruction that is done.
 pub fn run(
     code: &Instructions,
     from: Place,
@@ -86,7 +87,8 @@ pub struct Next {
     pub word: Option<usize>,
 }
 
-/// Does one instruction. Returns how the code goes on, or the fault at which it stops.
+/// Does one instruction on the state. Returns how the code goes on, or the fault at which it stops.
+/// `word` is the number of the case's word that is looked for, if any.
 #[inline(always)]
 fn act(
     word: Option<usize>,
@@ -119,15 +121,18 @@ fn act(
     Ok(go(0, None))
 }
 
-/// How code goes on that passes so many instructions, and looks for that word of a case, if any.
+/// Returns a `Next`: the code passes `passed` instructions, and looks for word number `word` of a
+/// case, if any.
 pub fn go(passed: usize, word: Option<usize>) -> Next
     ensures { result ≡ record { passed = passed; word = word } }
 {
     Next { passed, word }
 }
 
-/// How code goes on at the head of a case's word. If the word is looked for, it is done. If a later
-/// one is, the word is passed. If none is, the rest of the case is passed.
+/// Returns how code goes on at the head of a case's word. `word` counts the words up to the one
+/// that is looked for. If it is 0, the code goes on in this word. If it is more, the code passes
+/// the word's `length` instructions. If it is `None`, the code passes all `after` instructions to
+/// the end of the case.
 pub fn at_head(word: Option<usize>, length: usize, after: usize) -> Next
     ensures { result ≡ at_head word length after }
 {

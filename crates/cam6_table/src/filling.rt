@@ -30,10 +30,10 @@ use cam6_entries::{ENTRIES, Table};
 /// What stands at an address whose entry is not filled. An entry has two bits.
 const UNFILLED: u8 = 4;
 
-/// Makes the table that of a rule. If the rule stops at any address, returns the least one with the
-/// fault there, even if no cell shows that address. Then the table's entries may be anything. Does
-/// not allocate. The code runs only where the lines that it reads differ: its result depends on no
-/// other.
+/// Fills the table with the entries of a rule. If the rule stops at any address, returns the least
+/// such address with the fault there, even if no cell shows that address. Then the table's entries
+/// may be anything. Does not allocate. The code runs only where the lines that it reads differ: its
+/// result depends on no other.
 pub fn fill(code: &Code, table: &mut Table) -> Result<(), (u16, RuleFault)>
     ensures whole { length table.new ≡ addresses }
     ensures filled { IfOk result (λ _. AreEntries (result_at code.now) table.new) }
@@ -49,8 +49,9 @@ pub fn fill(code: &Code, table: &mut Table) -> Result<(), (u16, RuleFault)>
     Ok(())
 }
 
-/// Fills the entries at the addresses that show nothing but lines of the mask. Every other address
-/// has the result of a lower one of these.
+/// Fills the entries at the addresses that have no bit outside the mask. If the rule stops at one
+/// of them, returns the least one and the fault. At any other address the rule has the result of
+/// one of these, which is lower.
 fn fill_where_lines_differ(
     code: &Code,
     mask: u16,
@@ -80,8 +81,8 @@ fn leave_unfilled(table: &mut Table)
     }
 }
 
-/// Fills entries group by group, in an order in which lanes part seldom. It stops at a fault, and
-/// then leaves the rest.
+/// Fills entries at addresses within the mask, group by group. In this order lanes seldom part. At
+/// the first fault it stops, and leaves the other entries unfilled.
 fn fill_in_groups(code: &Code, mask: u16, scratch: &mut Scratch, table: &mut Table)
     requires whole { length table.old ≡ addresses }
     requires before { AreRightIfFilled (result_at code.now) table.old }
@@ -103,7 +104,8 @@ fn fill_in_groups(code: &Code, mask: u16, scratch: &mut Scratch, table: &mut Tab
     }
 }
 
-/// The address of each lane in a group. It has the lines of the group and those of the lane.
+/// Returns the addresses of a group, one for each lane. Each has the bits of `group` and the lane's
+/// bits in `own`.
 fn in_group(group: u16, own: &LaneValues) -> LaneValues
     ensures { (lane : ℕ) → lane < LANES → slice_index result lane < ENTRIES }
 {
@@ -114,7 +116,8 @@ fn in_group(group: u16, own: &LaneValues) -> LaneValues
     at
 }
 
-/// Fills the entries that are not filled, in the order of their addresses.
+/// Fills the entries at addresses within the mask that are not filled yet, in the order of the
+/// addresses. If the rule stops at one of them, returns the least one and the fault.
 fn fill_the_rest(
     code: &Code,
     mask: u16,
@@ -151,8 +154,8 @@ struct Batch {
     end: u16,
 }
 
-/// The next addresses from `from` to `last` that show nothing but lines of the mask and are not
-/// filled. There is one for each lane, if there are as many.
+/// Finds the next unfilled addresses from `from` to `last` that have no bit outside the mask. Finds
+/// at most one for each lane.
 fn next_batch(mask: u16, from: u16, last: u16, table: &Table) -> Batch
     requires whole { length table.now ≡ addresses }
     requires from { from ≤ last }
@@ -188,7 +191,7 @@ struct Scratch {
     lanes: Lanes,
 }
 
-/// Scratch with each lane at the start of the code and its stack empty.
+/// Makes scratch in which each lane is at the start of the code, with an empty stack.
 fn new_scratch(code: &Code) -> Scratch {
     Scratch {
         places: all_at_start(code.instructions()),
@@ -196,8 +199,9 @@ fn new_scratch(code: &Code) -> Scratch {
     }
 }
 
-/// Fills the entries at the addresses of the first `count` lanes, up to the first of them at which
-/// there is a fault.
+/// Runs the code at the addresses of the first `count` lanes, and fills their entries. At the first
+/// of these addresses at which the rule stops, returns it with the fault, and fills no further
+/// entry.
 fn fill_lanes(
     code: &Code,
     at: &LaneValues,
@@ -228,7 +232,8 @@ fn fill_lanes(
     Ok(())
 }
 
-/// Runs the code from its start in all lanes, as far as they go together.
+/// Runs the code from its start in all lanes, as far as they go together. The scratch then has
+/// where each lane is, and its state.
 fn run_all(code: &Code, addresses: &LaneValues, scratch: &mut Scratch)
     ensures left { AreLeft addresses.now code.now scratch.new.places scratch.new.lanes }
 {
@@ -243,7 +248,8 @@ fn run_all(code: &Code, addresses: &LaneValues, scratch: &mut Scratch)
     );
 }
 
-/// The code's entry at an address, or its fault there. Runs the code on from where its lane is.
+/// Returns the code's entry at the address of a lane, or its fault there. If the lane isn't at the
+/// end of the code, runs the code on from its place.
 fn entry_in(code: &Code, scratch: &Scratch, lane: usize, address: u16) -> Result<u8, RuleFault>
     requires lane { lane < LANES }
     requires left { IsLeft address code.now (slice_index scratch.now.places.remaining_by_lane lane)

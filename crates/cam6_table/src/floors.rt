@@ -14,7 +14,7 @@ pub struct Floors {
     pub widths: LaneValues,
 }
 
-/// Each stack begins at the first row, with all values in place.
+/// Returns floors with every stack at the first row, and all of its values in place.
 #[inline(always)]
 pub fn all_low() -> Floors
     ensures rows { (lane : ℕ) → lane < LANES → slice_index result.rows lane ≡ 0 }

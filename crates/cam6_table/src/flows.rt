@@ -39,7 +39,7 @@ pub struct Flow {
     pub was_parted: bool,
 }
 
-/// All lanes wait at the start of code.
+/// Returns places at which all lanes wait at the start of the code, with empty stacks.
 pub fn all_at_start(code: &Instructions) -> Places
     requires { length code.now ≤ max_eval_steps }
     ensures remaining_by_lane { (lane : ℕ) → lane < LANES →
@@ -52,8 +52,8 @@ pub fn all_at_start(code: &Instructions) -> Places
     }
 }
 
-/// Makes a flow of the lanes of a set, with `remaining` instructions left to them. It goes on until
-/// `stops_at` are left. Their stacks end at the row of the lanes at work.
+/// Makes a flow of the lanes of a set. They have `remaining` instructions left, and go on together
+/// until `stops_at` are left. Their stacks end at row `lanes.stacks.len`.
 #[inline(always)]
 pub fn flow_of(set: LaneMask, remaining: usize, stops_at: usize, lanes: &Lanes) -> Flow
     requires limit { lanes.now.stacks.len ≤ ROWS }
@@ -70,8 +70,8 @@ pub fn flow_of(set: LaneMask, remaining: usize, stops_at: usize, lanes: &Lanes) 
     }
 }
 
-/// Makes a flow of the lanes that wait at a place. It goes on until `stops_at` instructions are left.
-/// The stacks of the lanes at work end at the row of that place then.
+/// Makes a flow of all lanes that wait at the place `waiting`. They go on together until `stops_at`
+/// instructions are left. Sets `lanes.stacks.len` to the row at which their stacks end.
 #[inline(always)]
 pub fn resume(
     code: &Instructions,
@@ -90,8 +90,8 @@ pub fn resume(
     flow_of(those, remaining, stops_at, lanes)
 }
 
-/// Returns `IN` for a lane that waits at the place and is not in the other set, and 0 for any other
-/// lane.
+/// Returns the mark of a lane in a set: `IN` if it waits at the place and `other` has 0 for it, and
+/// else 0.
 #[inline(always)]
 fn mark_of(other: u16, is_there: bool) -> u16
     ensures { IsOther result other is_there }
@@ -99,8 +99,8 @@ fn mark_of(other: u16, is_there: bool) -> u16
     if is_there & (other == 0) { IN } else { 0 }
 }
 
-/// The lanes that wait where so many instructions are left, with stacks that end at a row, and are
-/// not in a set.
+/// Returns the set of the lanes outside `set` that wait with `remaining` instructions left and
+/// stacks that end at row `top`.
 #[inline(always)]
 pub fn others_at(set: &LaneMask, places: &Places, remaining: u16, top: u16) -> LaneMask
     ensures { (lane : ℕ) → lane < LANES → IsOther (slice_index result lane)
@@ -115,8 +115,8 @@ pub fn others_at(set: &LaneMask, places: &Places, remaining: u16, top: u16) -> L
     those
 }
 
-/// Lets the lanes of a set wait with so many instructions left to them and stacks that end at a
-/// row.
+/// Notes in `places` that the lanes of a set wait with `remaining` instructions left and stacks
+/// that end at row `top`.
 #[inline(always)]
 pub fn wait(places: &mut Places, set: &LaneMask, remaining: usize, top: usize)
     requires remaining { remaining ≤ max_eval_steps }
@@ -134,8 +134,9 @@ pub fn wait(places: &mut Places, set: &LaneMask, remaining: usize, top: usize)
     places.tops = put_in(set, top as u16, &places.tops);
 }
 
-/// Takes the top values off. Lanes in which it is 0 pass `distance` instructions. If only some do,
-/// they may have to wait. Returns `Apart`, and changes nothing, if a value may not be in place.
+/// Takes the top values off. Lanes in which the value is 0 pass `distance` instructions. If only
+/// some pass them, the others go on, and those may have to wait. Returns `Apart`, and changes
+/// nothing, if a value may not be in place.
 #[inline(always)]
 pub fn part_at_if(
     code: &Instructions,
@@ -183,8 +184,9 @@ pub fn part_at_if(
     Ok(())
 }
 
-/// The lanes of a flow whose value isn't 0 go on, while the others stand at `target`, further on.
-/// They meet there if the first come to it without parting anew. If not, the others wait there.
+/// Lets the lanes `parts.others` of a flow go on up to `target`, while `parts.zeros` stay there. If
+/// the first come to `target` without parting anew, both go on as one flow. If not, the flow loses
+/// the lanes `parts.zeros`, which wait at `target`.
 fn go_apart(
     code: &Instructions,
     addresses: &LaneValues,
@@ -241,9 +243,9 @@ fn go_apart(
     }
 }
 
-/// Takes the indices off. Each lane waits at that word of the case, and none is left in the flow.
-/// Returns `Apart`, and changes nothing, if a value may not be in place, or if an index is `count`
-/// or more.
+/// Takes an index off each stack. Each lane of the flow then waits at the case's word with this
+/// index, and the flow has no lane left. Returns `Apart`, and changes nothing, if an index may not
+/// be in place, or is `count` or more.
 #[inline(always)]
 pub fn part_at_case(
     code: &Instructions,
@@ -290,9 +292,10 @@ pub fn part_at_case(
     Ok(())
 }
 
-/// How many instructions are left at each lane's word of a case whose first head is next. Lanes
-/// outside the set keep `old`. Adds the places of the words to `words`. Returns `Apart` if an index
-/// is `count` or more.
+/// Returns how many instructions are left to each lane of the set at the word of a case that its
+/// index picks. Other lanes keep `old`. `from` is how many are left at the case's first word. Adds
+/// the places of these words to `words`. Returns `Apart` if an index is `count` or more, or if the
+/// code has no such word.
 fn words_found(
     code: &Instructions,
     from: usize,

@@ -32,7 +32,7 @@ pub struct Stacks {
 }
 
 impl Stacks {
-    /// Empty stacks in all lanes, with 0 in every row.
+    /// Makes empty stacks in all lanes, with 0 in every row.
     pub fn new() -> Stacks {
         Stacks {
             rows: [[0; LANES]; ROWS],
@@ -40,7 +40,7 @@ impl Stacks {
         }
     }
 
-    /// The stack of a lane that ends before row `top`.
+    /// Returns the stack of a lane. `top` is the row after its top value.
     pub fn of_lane(&self, floors: &Floors, lane: usize, top: usize) -> Stack
         requires lane { lane < LANES }
         requires stands { Stands lane top floors.now }
@@ -55,7 +55,8 @@ impl Stacks {
         stack
     }
 
-    /// Puts a lane's values from row `from` to before row `to` on a stack, the lowest first.
+    /// Pushes a lane's values from row `from` to before row `to` onto `stack`, the lowest row
+    /// first.
     fn put_rows(&self, lane: usize, from: usize, to: usize, stack: &mut Stack)
         requires lane { lane < LANES }
         requires up { from ≤ to }
@@ -69,7 +70,8 @@ impl Stacks {
         }
     }
 
-    /// Returns `Apart` unless, by the span, each lane has `count` values in place.
+    /// Returns `Apart` if fewer than `count` rows lie between the span's floor and the top. From
+    /// the floor on, all values of the lanes are in place.
     #[inline(always)]
     pub fn need(&self, span: Span, count: usize) -> Result<(), Apart>
         requires few { count ≤ ROWS }
@@ -83,7 +85,7 @@ impl Stacks {
         }
     }
 
-    /// Returns `Apart` unless, by the span, each lane has room for one more.
+    /// Returns `Apart` if, by the span, a lane's stack may have no room for one more value.
     #[inline(always)]
     fn need_room(&self, span: Span) -> Result<(), Apart>
         ensures { IfOk result (λ _. self.now.len < span.room) }
@@ -95,7 +97,7 @@ impl Stacks {
         }
     }
 
-    /// The values at a depth. The top ones are at depth 1.
+    /// Lends the values of all lanes at a depth below the top. The top values are at depth 1.
     #[inline(always)]
     pub fn at_depth(&self, depth: usize) -> &LaneValues
         requires some { 0 < depth }
@@ -106,7 +108,8 @@ impl Stacks {
         &self.rows[self.len - depth]
     }
 
-    /// Puts values on top in the lanes of a set. The row above the top stays as it was in others.
+    /// Pushes a value in each lane of a set, without a check for room. In other lanes the row that
+    /// was above the top stays as it was.
     #[inline(always)]
     fn put(&mut self, set: &LaneSet, values: &LaneValues)
         requires room { self.old.len < ROWS }
@@ -119,8 +122,8 @@ impl Stacks {
         self.len += 1;
     }
 
-    /// Copies row `from` over row `to` in those lanes of a set whose end is not above `from`. No
-    /// end in the set is above `highest`.
+    /// Copies row `from` over row `to` in each lane of a set whose entry in `ends` is at most
+    /// `from`. No entry of a lane of the set is above `highest`.
     #[inline(always)]
     pub fn copy(
         &mut self,
@@ -154,8 +157,8 @@ impl Stacks {
         };
     }
 
-    /// Brings a lane's values to their places, from row `from` to before row `to`. They lie `width`
-    /// rows below.
+    /// Copies a lane's values to rows `from` to before `to`, where they are in place. Before, they
+    /// lie `width` rows below.
     pub fn fill(&mut self, lane: usize, width: usize, from: usize, to: usize)
         requires lane { lane < LANES }
         requires low { width ≤ from }
@@ -179,8 +182,8 @@ impl Stacks {
         }
     }
 
-    /// Puts values on top in the lanes of a set. Returns `Apart`, and changes nothing, if there is
-    /// no room by the span.
+    /// Pushes a value in each lane of a set. Returns `Apart`, and changes nothing, if by the span a
+    /// stack may have no room.
     #[inline(always)]
     pub fn push(&mut self, set: &LaneSet, span: Span, values: &LaneValues) -> Result<(), Apart>
         requires holds { Holds span self.old.len }
@@ -196,8 +199,9 @@ impl Stacks {
         Ok(())
     }
 
-    /// Does what a stack word says, in the lanes of a set. Returns `Apart`, and changes nothing, if
-    /// values or room are missing by the span. It does so too if a lane of the set would stop.
+    /// Does a stack word in all lanes of a set. Returns `Apart`, and changes nothing, if by the
+    /// span a stack may lack a value or room. So it does if the word would stop in a lane of the
+    /// set.
     pub fn apply(&mut self, set: &LaneSet, span: Span, word: StackWord) -> Result<(), Apart>
         requires holds { Holds span self.old.len }
         ensures { LeavesIn set.now.mask span word self.old self.new result }
@@ -221,7 +225,8 @@ impl Stacks {
         }
     }
 
-    /// Puts a copy of the top values on top.
+    /// Pushes a copy of each lane's top value. Returns `Apart`, and changes nothing, if by the span
+    /// a stack may lack a value or room.
     fn dup(&mut self, set: &LaneSet, span: Span) -> Result<(), Apart>
         requires holds { Holds span self.old.len }
         ensures { LeavesIn set.now.mask span StackWord.Dup self.old self.new result }
@@ -233,7 +238,8 @@ impl Stacks {
         Ok(())
     }
 
-    /// Takes the top values off. No row changes, so the set isn't needed.
+    /// Takes the top values off. Returns `Apart`, and changes nothing, if by the span a stack may
+    /// lack a value. No row changes, so the set isn't needed.
     fn drop_top(&mut self, _set: &LaneSet, span: Span) -> Result<(), Apart>
         requires holds { Holds span self.old.len }
         ensures { LeavesIn _set.now.mask span StackWord.Drop self.old self.new result }
@@ -243,7 +249,8 @@ impl Stacks {
         Ok(())
     }
 
-    /// Exchanges the top values with those below them.
+    /// Exchanges each lane's top value with the one below it. Returns `Apart`, and changes nothing,
+    /// if by the span a stack may lack a value.
     fn swap(&mut self, set: &LaneSet, span: Span) -> Result<(), Apart>
         requires holds { Holds span self.old.len }
         ensures { LeavesIn set.now.mask span StackWord.Swap self.old self.new result }
@@ -257,7 +264,8 @@ impl Stacks {
         Ok(())
     }
 
-    /// Puts a copy of the values below the top ones on top.
+    /// Pushes a copy of each lane's value below the top one. Returns `Apart`, and changes nothing,
+    /// if by the span a stack may lack a value or room.
     fn over(&mut self, set: &LaneSet, span: Span) -> Result<(), Apart>
         requires holds { Holds span self.old.len }
         ensures { LeavesIn set.now.mask span StackWord.Over self.old self.new result }
@@ -269,7 +277,8 @@ impl Stacks {
         Ok(())
     }
 
-    /// Brings the third values to the top, over the two that were above them.
+    /// Moves each lane's third value to the top, over the two that were above it. Returns `Apart`,
+    /// and changes nothing, if by the span a stack may lack a value.
     fn rot(&mut self, set: &LaneSet, span: Span) -> Result<(), Apart>
         requires holds { Holds span self.old.len }
         ensures { LeavesIn set.now.mask span StackWord.Rot self.old self.new result }
@@ -285,7 +294,8 @@ impl Stacks {
         Ok(())
     }
 
-    /// Replaces each top value by 1 if it is 0, and else by 0.
+    /// Replaces each lane's top value by 1 if it is 0, and else by 0. Returns `Apart`, and changes
+    /// nothing, if by the span a stack may lack a value.
     fn is_zero(&mut self, set: &LaneSet, span: Span) -> Result<(), Apart>
         requires holds { Holds span self.old.len }
         ensures { LeavesIn set.now.mask span StackWord.IsZero self.old self.new result }
@@ -297,8 +307,9 @@ impl Stacks {
         Ok(())
     }
 
-    /// Does a word that leaves one value of two. Returns `Apart`, and changes nothing, if values
-    /// are missing by the span or the word would stop in a lane of the set.
+    /// Does a word that makes one value of the top two, in all lanes of a set. Returns `Apart`, and
+    /// changes nothing, if by the span a stack may lack a value. So it does if the word would stop
+    /// in a lane of the set.
     #[inline(always)]
     fn merge(&mut self, set: &LaneSet, span: Span, merge: Merge) -> Result<(), Apart>
         requires holds { Holds span self.old.len }

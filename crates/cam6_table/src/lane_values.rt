@@ -32,7 +32,7 @@ pub enum Merge {
 }
 
 impl Merge {
-    /// Whether the result is from 0 to 65,535, so that the word doesn't stop. `a` stands below `b`.
+    /// Whether the word's result for `a` below `b` is from 0 to 65,535. Else the word stops.
     #[inline(always)]
     fn fits(self, a: u16, b: u16) -> bool
         ensures { IsTrue result → Fits self a b }
@@ -46,7 +46,7 @@ impl Merge {
         }
     }
 
-    /// The value that the word leaves if it fits. `a` stands below `b`.
+    /// Returns the word's result for `a` below `b`, if it fits.
     #[inline(always)]
     fn of(self, a: u16, b: u16) -> u16
         ensures { (rest : List ℕ) → Fits self a b →
@@ -65,7 +65,8 @@ impl Merge {
         }
     }
 
-    /// Whether the word stops in no lane of a set.
+    /// Whether the word's result fits in each lane of a set, so that it stops in none of them. The
+    /// values `a` are below the values `b`.
     #[inline(always)]
     pub fn fits_in(self, set: &LaneSet, a: &LaneValues, b: &LaneValues) -> bool
         ensures { IsTrue result → (lane : ℕ) → lane < LANES → IsIn set.now.mask lane →
@@ -78,7 +79,8 @@ impl Merge {
         fits
     }
 
-    /// The value that the word leaves in each lane in which it fits. `a` stands below `b`.
+    /// Returns the word's result in each lane in which it fits. The values `a` are below the values
+    /// `b`.
     #[inline(always)]
     pub fn of_all(self, a: &LaneValues, b: &LaneValues) -> LaneValues
         ensures { (lane : ℕ) → lane < LANES → (rest : List ℕ) →
@@ -94,7 +96,7 @@ impl Merge {
     }
 }
 
-/// One value in all lanes.
+/// Returns values that are the same in all lanes.
 #[inline(always)]
 pub fn in_all(value: u16) -> LaneValues
     ensures { (lane : ℕ) → lane < LANES → slice_index result lane ≡ value }
@@ -102,7 +104,7 @@ pub fn in_all(value: u16) -> LaneValues
     [value; LANES]
 }
 
-/// Puts a value into one lane.
+/// Sets the value of one lane.
 #[inline(always)]
 pub fn put_value(values: &mut LaneValues, lane: usize, value: u16)
     requires lane { lane < LANES }
@@ -113,7 +115,7 @@ pub fn put_value(values: &mut LaneValues, lane: usize, value: u16)
     values[lane] = value;
 }
 
-/// 1 in the lanes in which the value is 0, and 0 in the others.
+/// Returns 1 in each lane in which the value is 0, and 0 in the others.
 #[inline(always)]
 pub fn zeros(values: &LaneValues) -> LaneValues
     ensures { (lane : ℕ) → lane < LANES →
@@ -126,7 +128,7 @@ pub fn zeros(values: &LaneValues) -> LaneValues
     zeros
 }
 
-/// The bit of an address line in each lane.
+/// Returns the bit of an address line in each lane's address, 0 or 1.
 #[inline(always)]
 pub fn bits_of(addresses: &LaneValues, line: u8) -> LaneValues
     ensures { (lane : ℕ) → lane < LANES →
@@ -139,7 +141,7 @@ pub fn bits_of(addresses: &LaneValues, line: u8) -> LaneValues
     bits
 }
 
-/// The lowest bits of the values.
+/// Returns the lowest bit of each lane's value.
 #[inline(always)]
 pub fn lowest_bits(values: &LaneValues) -> LaneValues
     ensures { (lane : ℕ) → lane < LANES →
@@ -152,7 +154,7 @@ pub fn lowest_bits(values: &LaneValues) -> LaneValues
     bits
 }
 
-/// The values' halves, rounded down.
+/// Returns half of each lane's value, rounded down.
 #[inline(always)]
 pub fn halves(values: &LaneValues) -> LaneValues
     ensures { (lane : ℕ) → lane < LANES →

@@ -30,7 +30,7 @@ pub struct Lanes {
     pub upper: LaneValues,
 }
 
-/// Empty stacks, and no plane written.
+/// Makes the state of lanes in which a rule begins: empty stacks, and no plane written.
 pub fn all_untouched() -> Lanes {
     Lanes {
         stacks: Stacks::new(),
@@ -52,7 +52,7 @@ pub fn clear(lanes: &mut Lanes)
     lanes.upper = in_all(NOT_WRITTEN);
 }
 
-/// The state of a lane with a stack that ends at row `top`.
+/// Returns the state of a lane whose stack ends before row `top`.
 pub fn state_of(lanes: &Lanes, lane: usize, top: usize) -> State
     requires lane { lane < LANES }
     requires stands { Stands lane top lanes.now.floors }
@@ -65,7 +65,8 @@ pub fn state_of(lanes: &Lanes, lane: usize, top: usize) -> State
     }
 }
 
-/// The bit that a value stands for, if any.
+/// Returns the bit that a lane's value in `lower` or `upper` means, or `None` if the lane wrote
+/// nothing.
 fn bit_written(value: u16) -> Option<bool>
     ensures { result ≡ bit_written value }
 {
@@ -76,7 +77,8 @@ fn bit_written(value: u16) -> Option<bool>
     }
 }
 
-/// A lane's entry at the end of the code, wherever its stack ends.
+/// Returns the entry of a lane that is at the end of the code, from the bits that it wrote. The
+/// stack doesn't matter.
 pub fn entry_at_end(lanes: &Lanes, lane: usize, address: u16) -> u8
     requires { lane < LANES }
     ensures entry { (top : ℕ) →
@@ -91,8 +93,9 @@ pub fn entry_at_end(lanes: &Lanes, lane: usize, address: u16) -> u8
     entry_of(&state, address)
 }
 
-/// Does what an output word says, in the lanes of a set, and takes the top values off. Returns
-/// `Apart`, and changes nothing, if values are missing by the span.
+/// Does an output word in all lanes of a set: takes the top values off, and notes their bits as
+/// written to the target planes. Returns `Apart`, and changes nothing, if by the span a stack may
+/// lack a value.
 #[inline(always)]
 pub fn write_in(lanes: &mut Lanes, set: &LaneSet, span: Span, target: Target) -> Result<(), Apart>
     requires holds { Holds span lanes.old.stacks.len }

@@ -11,7 +11,8 @@ const LINES_OF_LANES: usize = 6;
 /// The lines that an instruction can name.
 const NAMED_LINES: usize = 16;
 
-/// The bits of six lines of a mask that code reads least, or of all if there are fewer.
+/// Returns a mask of those six lines of `mask` that the code reads least, or of all its lines if
+/// there are fewer.
 pub fn least_read_lines(code: &Code, mask: u16) -> u16 {
     let reads = reads_of_lines(code);
     let mut chosen = 0;
@@ -21,7 +22,7 @@ pub fn least_read_lines(code: &Code, mask: u16) -> u16 {
     chosen
 }
 
-/// How many instructions read each line.
+/// Returns for each line how many instructions of the code read it.
 fn reads_of_lines(code: &Code) -> [u16; NAMED_LINES] {
     let instructions = code.instructions();
     let mut reads = [0u16; NAMED_LINES];
@@ -36,7 +37,8 @@ fn reads_of_lines(code: &Code) -> [u16; NAMED_LINES] {
     reads
 }
 
-/// The bit of the line of a mask that is read least, or 0 without a line.
+/// Returns the bit of that line of `mask` that is read least, or 0 if `mask` has no line. `reads`
+/// has how often each line is read.
 fn least_read_of(reads: &[u16; NAMED_LINES], mask: u16) -> u16 {
     let mut least = 0;
     let mut fewest = u16::MAX;

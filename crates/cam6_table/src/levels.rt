@@ -12,8 +12,9 @@ use crate::lane_values::{LANES, LaneValues};
 use crate::lanes::Lanes;
 use crate::sets::{LaneMask, greatest_in, least_in, lowered, put_in, raised, those_equal};
 
-/// Brings the stacks of two sets of lanes to one row, `here` or `there`, and returns it. Before,
-/// the first set's stacks end at row `here`, and the second set's at row `there`.
+/// Moves the stacks of two sets of lanes, so that all of them end at one row, and returns that row.
+/// Before, the first set's stacks end at row `here`, and the second set's at row `there`. The
+/// result is one of these two rows.
 pub fn level(
     first: &LaneMask,
     second: &LaneMask,
@@ -43,8 +44,10 @@ pub fn level(
     }
 }
 
-/// Lowers the stacks of the lanes that end at the higher row, if each has a gap that is wide
-/// enough. If not, it raises the others. Returns the row at which all of them end then.
+/// Moves the stacks of two sets of lanes, so that all of them end at one row, and returns that row.
+/// Before, those of `high` end at row `from`, and those of `low` at row `to`, which isn't above it.
+/// If each stack of `high` has a gap that is wide enough, these are lowered. Otherwise those of
+/// `low` are raised.
 fn join(high: &LaneMask, low: &LaneMask, from: usize, to: usize, lanes: &mut Lanes) -> usize
     requires each_high { (lane : ℕ) → lane < LANES → IsIn high.now lane ⊎ IsOut high.now lane }
     requires each_low { (lane : ℕ) → lane < LANES → IsIn low.now lane ⊎ IsOut low.now lane }
@@ -73,9 +76,9 @@ fn join(high: &LaneMask, low: &LaneMask, from: usize, to: usize, lanes: &mut Lan
     }
 }
 
-/// Raises the stacks of the lanes of a set, which end at row `from`, so that they end at row `to`.
-/// Values below a gap stay where they are. A stack without a gap gets one at its top, so that all
-/// of its values stay.
+/// Moves up the values above the gaps, so that the stacks of a set's lanes end at row `to` instead
+/// of row `from`. Values below a gap stay where they are. A stack without a gap gets one at its
+/// top, so that all of its values stay.
 pub fn raise(set: &LaneMask, from: usize, to: usize, lanes: &mut Lanes)
     requires set { (lane : ℕ) → lane < LANES → IsIn set.now lane ⊎ IsOut set.now lane }
     requires up { from ≤ to }
@@ -96,7 +99,8 @@ pub fn raise(set: &LaneMask, from: usize, to: usize, lanes: &mut Lanes)
     lanes.floors = Floors { rows, ends, widths };
 }
 
-/// Begins a gap of no width at the top of each stack of a set that has all values in place.
+/// Begins a gap of no width at row `top` in each stack of a set that has all values in place. `top`
+/// is the row at which these stacks end.
 fn cut(set: &LaneMask, top: usize, lanes: &mut Lanes)
     requires set { (lane : ℕ) → lane < LANES → IsIn set.now lane ⊎ IsOut set.now lane }
     requires top { top ≤ ROWS }
@@ -114,8 +118,8 @@ fn cut(set: &LaneMask, top: usize, lanes: &mut Lanes)
     lanes.floors.widths = widths;
 }
 
-/// Lowers the stacks of the lanes of a set, which end at row `from`, so that they end at row `to`.
-/// Each has a gap that is wide enough, and its values below that gap stay where they are.
+/// Moves down the values above the gaps, so that the stacks of a set's lanes end at row `to`
+/// instead of row `from`. Each gap is wide enough, and values below a gap stay where they are.
 pub fn lower(set: &LaneMask, from: usize, to: usize, lanes: &mut Lanes)
     requires set { (lane : ℕ) → lane < LANES → IsIn set.now lane ⊎ IsOut set.now lane }
     requires down { to ≤ from }
@@ -137,8 +141,8 @@ pub fn lower(set: &LaneMask, from: usize, to: usize, lanes: &mut Lanes)
     lanes.floors = Floors { rows, ends, widths };
 }
 
-/// Copies rows below `to` up by `by` rows, the last one first, in those lanes of a set in which
-/// they are in place.
+/// Copies rows below `to` up by `by` rows, the last one first. Copies a row only in the lanes of
+/// the set whose entry in `ends` isn't above it.
 fn move_up(stacks: &mut Stacks, set: &LaneMask, ends: &LaneValues, by: usize, to: usize)
     requires set { (lane : ℕ) → lane < LANES → IsIn set.now lane ⊎ IsOut set.now lane }
     requires within { to + by ≤ ROWS }
@@ -161,8 +165,8 @@ fn move_up(stacks: &mut Stacks, set: &LaneMask, ends: &LaneValues, by: usize, to
     }
 }
 
-/// Copies rows below `to` down by `by` rows, the first one first, in those lanes of a set in which
-/// they are in place.
+/// Copies rows below `to` down by `by` rows, the first one first. Copies a row only in the lanes of
+/// the set whose entry in `ends` isn't above it.
 fn move_down(stacks: &mut Stacks, set: &LaneMask, ends: &LaneValues, by: usize, to: usize)
     requires set { (lane : ℕ) → lane < LANES → IsIn set.now lane ⊎ IsOut set.now lane }
     requires within { to ≤ ROWS }
@@ -183,7 +187,8 @@ fn move_down(stacks: &mut Stacks, set: &LaneMask, ends: &LaneValues, by: usize, 
     }
 }
 
-/// Brings the values of the lanes of a set to their places, from a row on.
+/// Fills the gaps in the stacks of a set's lanes down to row `low`: copies values from below a gap
+/// to their places.
 pub fn dig(set: &LaneMask, low: usize, lanes: &mut Lanes)
     ensures len { lanes.new.stacks.len ≡ lanes.old.stacks.len }
     ensures inside { (lane top : ℕ) → lane < LANES → IsIn set.now lane →
@@ -198,8 +203,8 @@ pub fn dig(set: &LaneMask, low: usize, lanes: &mut Lanes)
     }
 }
 
-/// Brings the values of a lane to their places, from a row on. A stack that is dug to the first row
-/// can be lowered to it.
+/// Fills the gap in a lane's stack down to row `low`: copies values from below the gap to their
+/// places. If `low` is 0, the stack can be lowered to the first row afterwards.
 fn dig_in(lane: usize, low: usize, lanes: &mut Lanes)
     requires lane { lane < LANES }
     ensures len { lanes.new.stacks.len ≡ lanes.old.stacks.len }
@@ -225,10 +230,10 @@ fn dig_in(lane: usize, low: usize, lanes: &mut Lanes)
     lanes.floors.widths[lane] = width_after(width, floor, from, low);
 }
 
-/// The width of a gap after values from row `from` on were brought to their places. `low` is the
-/// row that was asked for. If values below `from` are left, it is the old width. If all are in
-/// place, any width is right. It is the floor if `low` is 0, so that `lower` can take the stack to
-/// the first row, and else 0.
+/// Returns the width of a lane's gap after values from row `from` on were copied to their places.
+/// `low` is the row down to which the gap had to be filled. If values below `from` are left, it is
+/// the old width. If all are in place, any width is right. It is the floor if `low` is 0, so that
+/// `lower` can take the stack to the first row, and else 0.
 #[inline(always)]
 fn width_after(width: u16, floor: u16, from: u16, low: usize) -> u16
     requires { width ≤ floor }

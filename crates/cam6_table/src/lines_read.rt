@@ -21,7 +21,8 @@ pub fn lines_read(code: &Code) -> u16
 /// The bits of the lines that show the centre.
 const CENTRE: u16 = 3;
 
-/// A mask with the bit of the line that an instruction reads, if it reads one of the sixteen.
+/// Returns `mask` with the bit of the line that an instruction reads, or `mask` as it is if it
+/// reads none of the sixteen.
 fn with_line_of(mask: u16, instruction: Instruction) -> u16
     ensures line { HasLineOf result instruction }
     ensures others { (line : ℕ) → bit_at mask line ≡ 1 → bit_at result line ≡ 1 }

@@ -23,9 +23,9 @@ const DUG: usize = 5;
 /// No word reads more values than this.
 const READ: usize = 3;
 
-/// Decides how a flow goes on after it stopped. After `Apart` it is settled. Otherwise it takes
-/// along the lanes that are next in the queue, or waits while they go on. Returns false if none are
-/// there, or if settling changes nothing.
+/// Decides how a flow goes on after it stopped. `ran` is how its run ended. After `Apart`, settles
+/// the flow. Otherwise it takes along the lanes that are next in the queue, or waits while they go
+/// on. Returns whether there is a flow that can go on.
 pub fn go_on(
     code: &Instructions,
     ran: Result<(), Apart>,
@@ -59,7 +59,8 @@ pub fn go_on(
     }
 }
 
-/// Lets the lanes of a flow wait at their place, and makes the flow that of the lanes at `next`.
+/// Lets the lanes of a flow wait at their place, and makes the flow one of the lanes that wait at
+/// `next`.
 #[inline(always)]
 fn exchange(
     code: &Instructions,
@@ -81,7 +82,8 @@ fn exchange(
     *flow = resume(code, next, queue.next_remaining(), places, lanes);
 }
 
-/// A flow comes to a place where others wait, and takes them along.
+/// Adds the lanes that wait at the place `next` to a flow that is there now. Moves the stacks of
+/// both to one row.
 fn meet(
     next: LanesWaiting,
     flow: &mut Flow,
@@ -108,9 +110,9 @@ fn meet(
     *flow = flow_of(both, flow.remaining, queue.next_remaining(), lanes);
 }
 
-/// Tries what may help after an instruction that can't be done in all lanes of a flow. Makes its
-/// span anew, brings values to their places or lowers its stacks. Returns false if none of these
-/// would change anything.
+/// Changes what may have kept a flow from doing an instruction in all of its lanes. Makes the
+/// flow's span anew, fills gaps in its stacks, or lowers them. Returns false if none of these would
+/// change anything.
 fn settle(flow: &mut Flow, lanes: &mut Lanes) -> bool
     requires holds { Holds flow.old.span lanes.old.stacks.len }
     requires each { (lane : ℕ) → lane < LANES →
@@ -133,8 +135,8 @@ fn settle(flow: &mut Flow, lanes: &mut Lanes) -> bool
     make_room(flow, lanes)
 }
 
-/// Lowers the stacks of a flow together, until the lowest begins at the first row. Returns false if
-/// one begins there already, or if they don't move.
+/// Lowers all stacks of a flow by one number of rows, until the lowest begins at the first row.
+/// Returns false if one begins there already, or if the stacks don't move.
 fn make_room(flow: &mut Flow, lanes: &mut Lanes) -> bool
     requires holds { Holds flow.old.span lanes.old.stacks.len }
     requires each { (lane : ℕ) → lane < LANES →

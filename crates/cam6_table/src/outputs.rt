@@ -16,7 +16,7 @@ pub struct State {
     pub upper: Option<bool>,
 }
 
-/// The state in which a rule begins.
+/// Returns the state in which a rule begins: an empty stack, and no plane written.
 pub fn untouched() -> State
     ensures { result ≡ untouched }
 {
@@ -27,7 +27,8 @@ pub fn untouched() -> State
     }
 }
 
-/// Does what an output word says. After a fault nothing is promised of the stack.
+/// Does an output word: takes the top value off, and notes its bits as written to the target
+/// planes. Fails if there is no value. After a fault nothing is promised of the stack.
 pub fn write_output(state: &mut State, target: Target) -> Result<(), RuleFault>
     ensures { IsOutcome (written target state.old) state.new result }
 {
@@ -45,8 +46,9 @@ pub fn write_output(state: &mut State, target: Target) -> Result<(), RuleFault>
     Ok(())
 }
 
-/// The table's entry at an address: bit 0 the new lower plane, bit 1 the new upper plane. A plane
-/// that isn't written keeps its centre. The centre is on line 0 or 1 of every neighbourhood.
+/// Returns the table's entry at an address, from the state at the end of the code. Bit 0 is the new
+/// lower plane, bit 1 the new upper plane. A plane that isn't written keeps its centre. The centre
+/// is on line 0 or 1 of every neighbourhood.
 pub fn entry_of(state: &State, address: u16) -> u8
     ensures entry { result ≡ entry_of (is_odd address) (is_odd (address / 2)) state.now }
     ensures within { result < 4 }

@@ -22,7 +22,7 @@ pub struct LaneSet {
 }
 
 impl LaneSet {
-    /// The set of a mask. Looks whether it has all lanes.
+    /// Makes the set of a mask, and notes whether it has all lanes.
     #[inline(always)]
     pub fn of(mask: LaneMask) -> LaneSet
         ensures { result.mask ≡ mask }
@@ -31,7 +31,7 @@ impl LaneSet {
         LaneSet { mask, is_all }
     }
 
-    /// The new values in the lanes of the set, and the old ones in the others.
+    /// Returns the new values in the lanes of the set, and the old ones in the others.
     #[inline(always)]
     pub fn chosen(&self, new: &LaneValues, old: &LaneValues) -> LaneValues
         ensures inside { (lane : ℕ) → lane < LANES → IsIn self.now.mask lane →
@@ -46,7 +46,7 @@ impl LaneSet {
         }
     }
 
-    /// Parts the set by where the value is 0.
+    /// Splits the set into the lanes in which the value is 0, and the others of the set.
     #[inline(always)]
     pub fn split(&self, values: &LaneValues) -> Parts
         ensures zeros { (lane : ℕ) → lane < LANES → slice_index result.zeros lane ≡
@@ -78,7 +78,8 @@ fn is_all(set: &LaneMask) -> bool
     missing == 0
 }
 
-/// The bits of `IN` that a lane's place in a mask lacks.
+/// Returns the bits that a lane's number in a mask lacks of `IN`. They are 0 exactly if the lane is
+/// in the set.
 #[inline(always)]
 fn missing_bits(mask: u16) -> u16
     ensures { result ≡ 0 → mask ≡ IN }
@@ -94,8 +95,8 @@ fn in_if_equal(a: u16, b: u16) -> u16
     if a == b { IN } else { 0 }
 }
 
-/// The new value in a lane of a set, and otherwise the old one. Without a branch the loop over the
-/// lanes becomes one over vectors.
+/// Returns `new` if `set` is `IN`, and `old` if it is 0. Without a branch the loop over the lanes
+/// becomes one over vectors.
 #[inline(always)]
 fn choose(set: u16, new: u16, old: u16) -> u16
     ensures inside { set ≡ IN → result ≡ new }
@@ -104,7 +105,7 @@ fn choose(set: u16, new: u16, old: u16) -> u16
     new & set | old & !set
 }
 
-/// The new values in the lanes of a set, and the old ones in the others.
+/// Returns the new values in the lanes of a set, and the old ones in the others.
 #[inline(always)]
 pub fn chosen(set: &LaneMask, new: &LaneValues, old: &LaneValues) -> LaneValues
     ensures inside { (lane : ℕ) → lane < LANES → IsIn set.now lane →
@@ -119,7 +120,7 @@ pub fn chosen(set: &LaneMask, new: &LaneValues, old: &LaneValues) -> LaneValues
     values
 }
 
-/// `IN` if a row is not below an end, and else 0.
+/// Returns `IN` if `row` is `end` or above, and else 0.
 #[inline(always)]
 fn in_if_from(end: u16, row: u16) -> u16
     ensures inside { end ≤ row → result ≡ IN }
@@ -128,7 +129,7 @@ fn in_if_from(end: u16, row: u16) -> u16
     if end <= row { IN } else { 0 }
 }
 
-/// The new value in a lane of a set whose end is not above a row, and otherwise the old one.
+/// Returns `new` if `set` is `IN` and `row` is `end` or above, and otherwise `old`.
 #[inline(always)]
 fn choose_from(set: u16, end: u16, row: u16, new: u16, old: u16) -> u16
     ensures inside { set ≡ IN → end ≤ row → result ≡ new }
@@ -138,8 +139,8 @@ fn choose_from(set: u16, end: u16, row: u16, new: u16, old: u16) -> u16
     choose(set & in_if_from(end, row), new, old)
 }
 
-/// The new values in the lanes of a set whose ends are not above a row, and the old ones in the
-/// others.
+/// Returns the new values in the lanes of a set whose entry in `ends` isn't above `row`, and the
+/// old ones in the others.
 #[inline(always)]
 pub fn chosen_from(
     set: &LaneMask,
@@ -162,7 +163,7 @@ pub fn chosen_from(
     values
 }
 
-/// The value plus `by` in a lane of a set, and the value as it was in any other lane.
+/// Returns `value` plus `by` if `set` is `IN`, and `value` if it is 0.
 #[inline(always)]
 fn raise_in(set: u16, by: u16, value: u16) -> u16
     ensures inside { set ≡ IN → value + by < 65536 → result ≡ value + by }
@@ -171,7 +172,7 @@ fn raise_in(set: u16, by: u16, value: u16) -> u16
     value.wrapping_add(by & set)
 }
 
-/// The values, raised in the lanes of a set.
+/// Returns the values, each greater by `by` in the lanes of a set.
 #[inline(always)]
 pub fn raised(set: &LaneMask, by: u16, values: &LaneValues) -> LaneValues
     ensures inside { (lane : ℕ) → lane < LANES → IsIn set.now lane →
@@ -187,7 +188,7 @@ pub fn raised(set: &LaneMask, by: u16, values: &LaneValues) -> LaneValues
     sums
 }
 
-/// The value minus `by` in a lane of a set, and the value as it was in any other lane.
+/// Returns `value` minus `by` if `set` is `IN`, and `value` if it is 0.
 #[inline(always)]
 fn lower_in(set: u16, by: u16, value: u16) -> u16
     ensures inside { set ≡ IN → by ≤ value → result + by ≡ value }
@@ -196,7 +197,7 @@ fn lower_in(set: u16, by: u16, value: u16) -> u16
     value.wrapping_sub(by & set)
 }
 
-/// The values, lowered in the lanes of a set.
+/// Returns the values, each less by `by` in the lanes of a set.
 #[inline(always)]
 pub fn lowered(set: &LaneMask, by: u16, values: &LaneValues) -> LaneValues
     ensures inside { (lane : ℕ) → lane < LANES → IsIn set.now lane →
@@ -212,7 +213,7 @@ pub fn lowered(set: &LaneMask, by: u16, values: &LaneValues) -> LaneValues
     rests
 }
 
-/// The lesser of a value and a limit in a lane of a set, and the value in any other lane.
+/// Returns the lesser of `value` and `limit` if `set` is `IN`, and `value` if it is 0.
 #[inline(always)]
 fn limit_in(set: u16, limit: u16, value: u16) -> u16
     ensures low { set ≡ IN → value ≤ limit → result ≡ value }
@@ -222,7 +223,7 @@ fn limit_in(set: u16, limit: u16, value: u16) -> u16
     value.min(limit | !set)
 }
 
-/// The values, each at most a limit in the lanes of a set.
+/// Returns the values, with those above a limit replaced by it in the lanes of a set.
 #[inline(always)]
 pub fn limited(set: &LaneMask, limit: u16, values: &LaneValues) -> LaneValues
     ensures low { (lane : ℕ) → lane < LANES → IsIn set.now lane →
@@ -240,7 +241,7 @@ pub fn limited(set: &LaneMask, limit: u16, values: &LaneValues) -> LaneValues
     least
 }
 
-/// The lanes of a set in which two values are equal.
+/// Returns the lanes of a set in which the two values are equal, as a set.
 #[inline(always)]
 pub fn those_equal(set: &LaneMask, values: &LaneValues, others: &LaneValues) -> LaneMask
     ensures { (lane : ℕ) → lane < LANES → slice_index result lane ≡
@@ -254,7 +255,7 @@ pub fn those_equal(set: &LaneMask, values: &LaneValues, others: &LaneValues) -> 
     those
 }
 
-/// One new value in the lanes of a set, and the old ones in the others.
+/// Returns the value `new` in the lanes of a set, and the old values in the others.
 #[inline(always)]
 pub fn put_in(set: &LaneMask, new: u16, old: &LaneValues) -> LaneValues
     ensures inside { (lane : ℕ) → lane < LANES → IsIn set.now lane →
@@ -269,7 +270,7 @@ pub fn put_in(set: &LaneMask, new: u16, old: &LaneValues) -> LaneValues
     values
 }
 
-/// The lanes of a set in which the value is this one.
+/// Returns the lanes of a set in which the value is `value`, as a set.
 #[inline(always)]
 pub fn those_with(set: &LaneMask, values: &LaneValues, value: u16) -> LaneMask
     ensures { (lane : ℕ) → lane < LANES → slice_index result lane ≡
@@ -338,7 +339,7 @@ pub fn is_none(set: &LaneMask) -> bool
     some == 0
 }
 
-/// The greatest of the values in the lanes of a set, and 0 in none.
+/// Returns the greatest of the values in the lanes of a set, or 0 if the set has no lane.
 #[inline(always)]
 pub fn greatest_in(set: &LaneMask, values: &LaneValues) -> u16
     ensures { (lane : ℕ) → lane < LANES → IsIn set.now lane →
@@ -351,7 +352,7 @@ pub fn greatest_in(set: &LaneMask, values: &LaneValues) -> u16
     most
 }
 
-/// The least of the values in the lanes of a set, and 65,535 in none.
+/// Returns the least of the values in the lanes of a set, or 65,535 if the set has no lane.
 #[inline(always)]
 pub fn least_in(set: &LaneMask, values: &LaneValues) -> u16
     ensures { (lane : ℕ) → lane < LANES → IsIn set.now lane →

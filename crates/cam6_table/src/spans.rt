@@ -19,7 +19,8 @@ pub struct Span {
     pub room: usize,
 }
 
-/// A span for the lanes of a set, whose stacks end at one row.
+/// Returns the span of the lanes of a set, whose stacks end at row `top`. It holds for all of these
+/// lanes.
 #[inline(always)]
 pub fn span_of(floors: &Floors, set: &LaneMask, top: usize) -> Span
     requires top { top ≤ ROWS }

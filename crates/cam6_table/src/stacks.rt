@@ -30,7 +30,7 @@ impl Model for Stack {
 impl Stack {
     ghost use Rattle.std.specs.Prelude.{[], ◌∷◌, ◌<◌, OnOk};
 
-    /// An empty stack. Does not allocate.
+    /// Makes an empty stack. Does not allocate.
     pub fn new() -> Stack
         ensures { result ≡ [] }
     {
@@ -64,7 +64,7 @@ impl Stack {
         Ok(self.values[self.len])
     }
 
-    /// Puts a value on top.
+    /// Puts a value on top. The caller has made sure that there is room.
     pub fn put(&mut self, value: u16)
         requires room { length self.old < MAX_VALUES }
         ensures { self.new ≡ value ∷ self.old }
@@ -73,7 +73,8 @@ impl Stack {
         self.len += 1;
     }
 
-    /// Does what a stack word says. After a fault nothing is promised of the stack.
+    /// Does a stack word, or returns the fault at which it stops. After a fault nothing is promised
+    /// of the stack.
     pub fn apply(&mut self, word: StackWord) -> Result<(), RuleFault>
         ensures { IsOutcome (on_stack word self.old) self.new result }
     {
@@ -96,7 +97,7 @@ impl Stack {
         }
     }
 
-    /// Puts a copy of the top value on top, if there is room.
+    /// Puts a copy of the top value on top. Fails if there is no value, or no room.
     fn dup(&mut self) -> Result<(), RuleFault>
         ensures { IsOutcome (on_stack StackWord.Dup self.old) self.new result }
     {
@@ -124,7 +125,8 @@ impl Stack {
         Ok(())
     }
 
-    /// Puts a copy of the value below the top one on top, if there is room.
+    /// Puts a copy of the value below the top one on top. Fails if there are not two values, or no
+    /// room.
     fn over(&mut self) -> Result<(), RuleFault>
         ensures { IsOutcome (on_stack StackWord.Over self.old) self.new result }
     {
@@ -135,7 +137,8 @@ impl Stack {
         self.push(a)
     }
 
-    /// Brings the third value to the top, over the two that were above it.
+    /// Moves the third value to the top, over the two that were above it. Fails if there are not
+    /// three values.
     fn rot(&mut self) -> Result<(), RuleFault>
         ensures { IsOutcome (on_stack StackWord.Rot self.old) self.new result }
     {
@@ -148,7 +151,8 @@ impl Stack {
         Ok(())
     }
 
-    /// Replaces the top two values by their sum. Above 65,535 it is out of range.
+    /// Replaces the top two values by their sum. Fails if there are not two, or if the sum is above
+    /// 65,535.
     fn plus(&mut self) -> Result<(), RuleFault>
         ensures { IsOutcome (on_stack StackWord.Plus self.old) self.new result }
     {
@@ -161,7 +165,8 @@ impl Stack {
         Ok(())
     }
 
-    /// Replaces the top two values by the second one minus the top one. Below 0 it is out of range.
+    /// Replaces the top two values by the second one minus the top one. Fails if there are not two,
+    /// or if the difference is below 0.
     fn minus(&mut self) -> Result<(), RuleFault>
         ensures { IsOutcome (on_stack StackWord.Minus self.old) self.new result }
     {
@@ -174,7 +179,8 @@ impl Stack {
         Ok(())
     }
 
-    /// Replaces the top two values by their product. Above 65,535 it is out of range.
+    /// Replaces the top two values by their product. Fails if there are not two, or if the product
+    /// is above 65,535.
     fn times(&mut self) -> Result<(), RuleFault>
         ensures { IsOutcome (on_stack StackWord.Times self.old) self.new result }
     {
@@ -187,7 +193,7 @@ impl Stack {
         Ok(())
     }
 
-    /// Replaces the top two values by their AND, bit by bit.
+    /// Replaces the top two values by their AND, bit by bit. Fails if there are not two.
     fn and(&mut self) -> Result<(), RuleFault>
         ensures { IsOutcome (on_stack StackWord.And self.old) self.new result }
     {
@@ -197,7 +203,7 @@ impl Stack {
         Ok(())
     }
 
-    /// Replaces the top two values by their OR, bit by bit.
+    /// Replaces the top two values by their OR, bit by bit. Fails if there are not two.
     fn or(&mut self) -> Result<(), RuleFault>
         ensures { IsOutcome (on_stack StackWord.Or self.old) self.new result }
     {
@@ -207,7 +213,7 @@ impl Stack {
         Ok(())
     }
 
-    /// Replaces the top two values by their XOR, bit by bit.
+    /// Replaces the top two values by their XOR, bit by bit. Fails if there are not two.
     fn xor(&mut self) -> Result<(), RuleFault>
         ensures { IsOutcome (on_stack StackWord.Xor self.old) self.new result }
     {
@@ -217,7 +223,7 @@ impl Stack {
         Ok(())
     }
 
-    /// Replaces the top value by 1 if it is 0, and else by 0.
+    /// Replaces the top value by 1 if it is 0, and else by 0. Fails if there is none.
     fn is_zero(&mut self) -> Result<(), RuleFault>
         ensures { IsOutcome (on_stack StackWord.IsZero self.old) self.new result }
     {
@@ -226,7 +232,8 @@ impl Stack {
         Ok(())
     }
 
-    /// Replaces the top two values by 1 if they are equal, and else by 0.
+    /// Replaces the top two values by 1 if they are equal, and else by 0. Fails if there are not
+    /// two.
     fn equal(&mut self) -> Result<(), RuleFault>
         ensures { IsOutcome (on_stack StackWord.Equal self.old) self.new result }
     {
@@ -236,7 +243,8 @@ impl Stack {
         Ok(())
     }
 
-    /// Replaces the top two values by 1 if the top one is the greater one, and else by 0.
+    /// Replaces the top two values by 1 if the second one is less than the top one, and else by 0.
+    /// Fails if there are not two.
     fn less(&mut self) -> Result<(), RuleFault>
         ensures { IsOutcome (on_stack StackWord.Less self.old) self.new result }
     {
@@ -246,7 +254,8 @@ impl Stack {
         Ok(())
     }
 
-    /// Replaces the top two values by 1 if the top one is the lesser one, and else by 0.
+    /// Replaces the top two values by 1 if the second one is greater than the top one, and else by
+    /// 0. Fails if there are not two.
     fn greater(&mut self) -> Result<(), RuleFault>
         ensures { IsOutcome (on_stack StackWord.Greater self.old) self.new result }
     {

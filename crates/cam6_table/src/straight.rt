@@ -14,8 +14,9 @@ use crate::sets::{LaneSet, limited};
 use crate::spans::Span;
 use cam6_forth::StackWord;
 
-/// Does instructions until at most `stops_at` are left, up to one at which lanes can part or which
-/// can't be done in all of them. Returns how many are left.
+/// Does instructions in the lanes of a set, from the place where `from` are left until at most
+/// `stops_at` are left. Stops earlier at one at which lanes can part, or which can't be done in all
+/// of them. Returns how many are left.
 #[inline(always)]
 pub fn run_straight(
     code: &Instructions,
@@ -47,8 +48,9 @@ pub fn run_straight(
     remaining
 }
 
-/// Does one instruction in the lanes of a set, and returns how many instructions all of them pass.
-/// Returns `Apart`, with nothing done, if lanes can part there or it can't be done in all.
+/// Does one instruction in the lanes of a set, and narrows the span to what holds after it. Returns
+/// how many instructions all lanes pass then. Returns `Apart`, with nothing done, if lanes can part
+/// there or it can't be done in all.
 #[inline(always)]
 fn step(
     instruction: Instruction,
@@ -72,8 +74,8 @@ fn step(
     }
 }
 
-/// Takes the top values off, which need not be in place, and returns 0: no instruction is passed.
-/// Returns `Apart`, with nothing done, if a stack may be empty by the span.
+/// Takes the top values off, even if they aren't in place. Returns 0, since no instruction is
+/// passed. Returns `Apart`, with nothing done, if by the span a stack may be empty.
 fn drop_top(set: &LaneSet, span: &mut Span, lanes: &mut Lanes) -> Result<usize, Apart>
     requires holds { Holds span.old lanes.old.stacks.len }
     requires floors { (lane : ℕ) → lane < LANES → IsIn set.now.mask lane →
@@ -94,8 +96,9 @@ fn drop_top(set: &LaneSet, span: &mut Span, lanes: &mut Lanes) -> Result<usize, 
     Ok(0)
 }
 
-/// Does one instruction in the lanes of a set, and returns how many instructions all of them pass.
-/// Returns `Apart`, with nothing done, if lanes can part there or it can't be done in all.
+/// Does one instruction in the lanes of a set, whose values must be in place by the span. Returns
+/// how many instructions all lanes pass then. Returns `Apart`, with nothing done, if lanes can part
+/// there or it can't be done in all.
 #[inline(always)]
 fn act_in(
     instruction: Instruction,

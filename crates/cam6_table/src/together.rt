@@ -22,8 +22,8 @@ const FLOWS: u32 = 64 * 4096;
 /// many instructions in all they are sooner done one by one.
 const MOST_STEPS: usize = 12 * 4096;
 
-/// Runs the code in all lanes, each at its address, as far as they go together. `places` has then
-/// where each lane is. That is the end of the code, or a place from which it can be run on by
+/// Runs the code in all lanes, each at its address, as far as they go together. Writes to `places`
+/// where each lane is then. That is the end of the code, or a place from which it can be run on by
 /// itself.
 pub fn run_together(
     code: &Instructions,
@@ -41,8 +41,8 @@ pub fn run_together(
     wait(places, &flow.set.mask, flow.remaining, lanes.stacks.len);
 }
 
-/// Runs the code in the lanes of a flow and in those that part from it. It ends early if
-/// `MOST_STEPS` are used up, or if a flow can't go on.
+/// Runs the code in the lanes of a flow and in those that part from it, and writes to `places`
+/// where they are then. It ends early if `MOST_STEPS` are used up, or if a flow can't go on.
 fn run_flows(
     code: &Instructions,
     addresses: &LaneValues,
@@ -67,8 +67,8 @@ fn run_flows(
     }
 }
 
-/// Runs the code in the lanes of a flow up to where others wait, while steps are left. Returns
-/// `Apart` at an instruction that can't be done in all of them.
+/// Runs the code in the lanes of a flow up to where others wait, while `steps` are left. Returns
+/// `Apart` at an instruction that can't be done in all of its lanes.
 fn run_flow(
     code: &Instructions,
     addresses: &LaneValues,
@@ -90,8 +90,8 @@ fn run_flow(
     Ok(())
 }
 
-/// Does instructions in the lanes of a flow up to where others wait, or up to where its lanes can
-/// part and past that. Returns `Apart` at one that can't be done in all of them.
+/// Does instructions in the lanes of a flow up to where others wait. Or does them up to one at
+/// which lanes can part, and that one too. Returns `Apart` at one that can't be done in all lanes.
 #[inline(always)]
 fn advance(
     code: &Instructions,
@@ -114,7 +114,8 @@ fn advance(
     diverge(code, addresses, flow, queue, places, lanes)
 }
 
-/// Does the instructions that the lanes of a flow do in the same way.
+/// Does instructions in the lanes of a flow, up to where others wait. Stops earlier at one at which
+/// lanes can part, or which can't be done in all of them.
 #[inline(always)]
 fn go_straight(code: &Instructions, addresses: &LaneValues, flow: &mut Flow, lanes: &mut Lanes)
     requires within { flow.old.remaining ≤ length code.now }

@@ -14,8 +14,8 @@ pub struct LanesWaiting {
     pub top: u16,
 }
 
-/// A place with `remaining` instructions left and stacks that end at row `top`. Numbers above 4,096
-/// and 64 become these, as no code is longer and no stack ends higher.
+/// Returns a place with `remaining` instructions left and stacks that end at row `top`. Numbers
+/// above 4,096 and 64 become these, as no code is longer and no stack ends higher.
 #[inline(always)]
 pub fn waiting_at(remaining: usize, top: usize) -> LanesWaiting {
     LanesWaiting {
@@ -32,7 +32,7 @@ pub struct LaneQueue {
 }
 
 impl LaneQueue {
-    /// A queue without a place.
+    /// Makes a queue without a place.
     pub fn new() -> LaneQueue {
         LaneQueue {
             waiting: [waiting_at(0, 0); LANES],
@@ -40,7 +40,8 @@ impl LaneQueue {
         }
     }
 
-    /// How many instructions are left at the place that goes on next, or 0 without a place.
+    /// Returns how many instructions are left at the place that goes on next, or 0 if there is no
+    /// place.
     #[inline(always)]
     pub fn next_remaining(&self) -> usize {
         let len = self.len.min(LANES);
@@ -62,7 +63,8 @@ impl LaneQueue {
         Some(self.waiting[len - 1])
     }
 
-    /// Adds a place, unless it is the end of the code, is there already or finds no room.
+    /// Adds a place in order. Does nothing if it is the end of the code, is in the queue already or
+    /// finds no room.
     #[inline(always)]
     pub fn put(&mut self, new: LanesWaiting) {
         if new.remaining == 0 || self.len >= LANES {
@@ -76,7 +78,8 @@ impl LaneQueue {
         }
     }
 
-    /// Adds a place before those that go on earlier, unless it is there already or finds no room.
+    /// Adds a place in order, before those that have more instructions left. Does nothing if it is
+    /// in the queue already or finds no room.
     fn put_between(&mut self, new: LanesWaiting) {
         if self.len >= LANES || self.has_place(new) {
             return;
@@ -91,7 +94,7 @@ impl LaneQueue {
         }
     }
 
-    /// Whether a place is there already.
+    /// Whether a place is in the queue already.
     fn has_place(&self, new: LanesWaiting) -> bool {
         let len = self.len.min(LANES);
         for back in 1..len + 1 {
@@ -106,7 +109,8 @@ impl LaneQueue {
         false
     }
 
-    /// Moves the places of another queue to this one, the last of them first.
+    /// Moves the places of another queue to this one in order, the last of them first. Those that
+    /// are in it already or find no room are lost.
     #[inline(always)]
     pub fn put_all(&mut self, others: &mut LaneQueue) {
         for _ in 0..LANES {
@@ -117,7 +121,8 @@ impl LaneQueue {
         }
     }
 
-    /// Adds a place at the end, without a look at the others. Does nothing if there is no room.
+    /// Adds a place as the one that goes on next, without a look at the others. Does nothing if
+    /// there is no room.
     #[inline(always)]
     pub fn push(&mut self, new: LanesWaiting) {
         if self.len < LANES {
