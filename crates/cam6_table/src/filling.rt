@@ -65,13 +65,13 @@ fn fill_where_lines_differ(
     ensures fault { IfErr result (λ refused. IsLeastStop (result_at code.now) refused.0 refused.1) }
 {
     let mut scratch = new_scratch(code);
-    leave_unfilled(table);
+    mark_unfilled(table);
     fill_in_groups(code, mask, &mut scratch, table);
     fill_the_rest(code, mask, &mut scratch, table)
 }
 
 /// Marks the entry at each address as not filled.
-fn leave_unfilled(table: &mut Table)
+fn mark_unfilled(table: &mut Table)
     requires whole { length table.old ≡ addresses }
     ensures whole { length table.new ≡ addresses }
     ensures unfilled { (a : ℕ) → a < ENTRIES → slice_index table.new a ≡ unfilled }
@@ -96,7 +96,7 @@ fn fill_in_groups(code: &Code, mask: u16, scratch: &mut Scratch, table: &mut Tab
     let lanes = next_batch(own, 0, own, table);
     for group in 0..ENTRIES {
         if group & mask & !own == group {
-            let at = in_group(group, &lanes.addresses);
+            let at = group_addresses(group, &lanes.addresses);
             if fill_lanes(code, &at, lanes.count, scratch, table).is_err() {
                 return;
             }
@@ -106,7 +106,7 @@ fn fill_in_groups(code: &Code, mask: u16, scratch: &mut Scratch, table: &mut Tab
 
 /// Returns the addresses of a group, one for each lane. Each has the bits of `group` and the lane's
 /// bits in `own`.
-fn in_group(group: u16, own: &LaneValues) -> LaneValues
+fn group_addresses(group: u16, own: &LaneValues) -> LaneValues
     ensures { (lane : ℕ) → lane < LANES → slice_index result lane < ENTRIES }
 {
     let mut at = [0; LANES];

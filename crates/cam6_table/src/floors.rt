@@ -1,4 +1,9 @@
 //! Where the stacks of all lanes lie.
+//!
+//! A value is in place if it lies in the row that its depth below the stack's top gives. A gap is
+//! the rows between a lane's values in place and those that were left below. A stack can move
+//! without the values below its gap. `Span` says for a set of lanes from which row on all values
+//! are in place.
 ghost use Rattle.std.specs.Prelude.{◌≡◌, ◌<◌, ℕ, slice_index};
 ghost use Rattle.cam6_table.specs.declared.lane_values.TheConstants.{LANES};
 

@@ -55,7 +55,7 @@ pub fn all_at_start(code: &Instructions) -> Places
 /// Makes a flow of the lanes of a set. They have `remaining` instructions left, and go on together
 /// until `stops_at` are left. Their stacks end at row `lanes.stacks.len`.
 #[inline(always)]
-pub fn flow_of(set: LaneMask, remaining: usize, stops_at: usize, lanes: &Lanes) -> Flow
+pub fn new_flow(set: LaneMask, remaining: usize, stops_at: usize, lanes: &Lanes) -> Flow
     requires limit { lanes.now.stacks.len ≤ ROWS }
     ensures left { (addresses : List ℕ) (code : List Instruction) (places : Places) →
         AreLeftAt addresses code set remaining places lanes.now →
@@ -87,7 +87,7 @@ pub fn resume(
     let those = others_at(&in_all(0), places, waiting.remaining, top);
     lanes.stacks.len = usize::from(top);
     let remaining = usize::from(waiting.remaining).min(code.len());
-    flow_of(those, remaining, stops_at, lanes)
+    new_flow(those, remaining, stops_at, lanes)
 }
 
 /// Returns the mark of a lane in a set: `IN` if it waits at the place and `other` has 0 for it, and
@@ -160,7 +160,7 @@ pub fn part_at_if(
         AreLeftWith addresses.now code.now flow.old places.old lanes.old →
         AreLeftWith addresses.now code.now flow.new places.new lanes.new }
 {
-    lanes.stacks.need(flow.span, 1)?;
+    lanes.stacks.need_values(flow.span, 1)?;
     let remaining = flow.remaining - 1;
     let target = remaining.saturating_sub(distance);
     if distance == 0 {
@@ -180,14 +180,14 @@ pub fn part_at_if(
         return Ok(());
     }
     flow.remaining = remaining;
-    go_apart(code, addresses, parts, target, flow, queue, places, lanes);
+    split_flow(code, addresses, parts, target, flow, queue, places, lanes);
     Ok(())
 }
 
 /// Lets the lanes `parts.others` of a flow go on up to `target`, while `parts.zeros` stay there. If
 /// the first come to `target` without parting anew, both go on as one flow. If not, the flow loses
 /// the lanes `parts.zeros`, which wait at `target`.
-fn go_apart(
+fn split_flow(
     code: &Instructions,
     addresses: &LaneValues,
     parts: Parts,
@@ -265,11 +265,11 @@ pub fn part_at_case(
         AreLeftWith addresses code.now flow.old places.old lanes.old →
         AreLeftWith addresses code.now flow.new places.new lanes.new }
 {
-    lanes.stacks.need(flow.span, 1)?;
+    lanes.stacks.need_values(flow.span, 1)?;
     let remaining = flow.remaining - 1;
     let indices = lanes.stacks.at_depth(1);
     let mut words = LaneQueue::new();
-    let remaining_by_lane = words_found(
+    let remaining_by_lane = find_case_words(
         code,
         remaining,
         count,
@@ -296,7 +296,7 @@ pub fn part_at_case(
 /// index picks. Other lanes keep `old`. `from` is how many are left at the case's first word. Adds
 /// the places of these words to `words`. Returns `Apart` if an index is `count` or more, or if the
 /// code has no such word.
-fn words_found(
+fn find_case_words(
     code: &Instructions,
     from: usize,
     count: usize,

@@ -66,14 +66,14 @@ impl Stacks {
         ensures length { length stack.new + from ≡ length stack.old + to }
     {
         for k in from..to {
-            stack.put(self.rows[k][lane]);
+            stack.push_unchecked(self.rows[k][lane]);
         }
     }
 
     /// Returns `Apart` if fewer than `count` rows lie between the span's floor and the top. From
     /// the floor on, all values of the lanes are in place.
     #[inline(always)]
-    pub fn need(&self, span: Span, count: usize) -> Result<(), Apart>
+    pub fn need_values(&self, span: Span, count: usize) -> Result<(), Apart>
         requires few { count ≤ ROWS }
         requires holds { Holds span self.now.len }
         ensures { IfOk result (λ _. count + span.floor ≤ self.now.len) }
@@ -111,7 +111,7 @@ impl Stacks {
     /// Pushes a value in each lane of a set, without a check for room. In other lanes the row that
     /// was above the top stays as it was.
     #[inline(always)]
-    fn put(&mut self, set: &LaneSet, values: &LaneValues)
+    fn push_unchecked(&mut self, set: &LaneSet, values: &LaneValues)
         requires room { self.old.len < ROWS }
         ensures high { self.new.len ≡ self.old.len + 1 }
         ensures put { Pushes set.now.mask values.now self.old self.new }
@@ -195,7 +195,7 @@ impl Stacks {
         ensures err { OnErr result (self.new ≡ self.old) }
     {
         self.need_room(span)?;
-        self.put(set, values);
+        self.push_unchecked(set, values);
         Ok(())
     }
 
@@ -212,16 +212,16 @@ impl Stacks {
             StackWord::Swap => self.swap(set, span),
             StackWord::Over => self.over(set, span),
             StackWord::Rot => self.rot(set, span),
-            StackWord::Plus => self.merge(set, span, Merge::Plus),
-            StackWord::Minus => self.merge(set, span, Merge::Minus),
-            StackWord::Times => self.merge(set, span, Merge::Times),
-            StackWord::And => self.merge(set, span, Merge::And),
-            StackWord::Or => self.merge(set, span, Merge::Or),
-            StackWord::Xor => self.merge(set, span, Merge::Xor),
-            StackWord::IsZero => self.is_zero(set, span),
-            StackWord::Equal => self.merge(set, span, Merge::Equal),
-            StackWord::Less => self.merge(set, span, Merge::Less),
-            StackWord::Greater => self.merge(set, span, Merge::Greater),
+            StackWord::Plus => self.apply_binary(set, span, Merge::Plus),
+            StackWord::Minus => self.apply_binary(set, span, Merge::Minus),
+            StackWord::Times => self.apply_binary(set, span, Merge::Times),
+            StackWord::And => self.apply_binary(set, span, Merge::And),
+            StackWord::Or => self.apply_binary(set, span, Merge::Or),
+            StackWord::Xor => self.apply_binary(set, span, Merge::Xor),
+            StackWord::IsZero => self.zero_equals(set, span),
+            StackWord::Equal => self.apply_binary(set, span, Merge::Equal),
+            StackWord::Less => self.apply_binary(set, span, Merge::Less),
+            StackWord::Greater => self.apply_binary(set, span, Merge::Greater),
         }
     }
 
@@ -231,10 +231,10 @@ impl Stacks {
         requires holds { Holds span self.old.len }
         ensures { LeavesIn set.now.mask span StackWord.Dup self.old self.new result }
     {
-        self.need(span, 1)?;
+        self.need_values(span, 1)?;
         self.need_room(span)?;
         let a = *self.at_depth(1);
-        self.put(set, &a);
+        self.push_unchecked(set, &a);
         Ok(())
     }
 
@@ -244,7 +244,7 @@ impl Stacks {
         requires holds { Holds span self.old.len }
         ensures { LeavesIn _set.now.mask span StackWord.Drop self.old self.new result }
     {
-        self.need(span, 1)?;
+        self.need_values(span, 1)?;
         self.len -= 1;
         Ok(())
     }
@@ -255,12 +255,12 @@ impl Stacks {
         requires holds { Holds span self.old.len }
         ensures { LeavesIn set.now.mask span StackWord.Swap self.old self.new result }
     {
-        self.need(span, 2)?;
+        self.need_values(span, 2)?;
         let b = *self.at_depth(1);
         let a = *self.at_depth(2);
         self.len -= 2;
-        self.put(set, &b);
-        self.put(set, &a);
+        self.push_unchecked(set, &b);
+        self.push_unchecked(set, &a);
         Ok(())
     }
 
@@ -270,10 +270,10 @@ impl Stacks {
         requires holds { Holds span self.old.len }
         ensures { LeavesIn set.now.mask span StackWord.Over self.old self.new result }
     {
-        self.need(span, 2)?;
+        self.need_values(span, 2)?;
         self.need_room(span)?;
         let a = *self.at_depth(2);
-        self.put(set, &a);
+        self.push_unchecked(set, &a);
         Ok(())
     }
 
@@ -283,27 +283,27 @@ impl Stacks {
         requires holds { Holds span self.old.len }
         ensures { LeavesIn set.now.mask span StackWord.Rot self.old self.new result }
     {
-        self.need(span, 3)?;
+        self.need_values(span, 3)?;
         let c = *self.at_depth(1);
         let b = *self.at_depth(2);
         let a = *self.at_depth(3);
         self.len -= 3;
-        self.put(set, &b);
-        self.put(set, &c);
-        self.put(set, &a);
+        self.push_unchecked(set, &b);
+        self.push_unchecked(set, &c);
+        self.push_unchecked(set, &a);
         Ok(())
     }
 
     /// Replaces each lane's top value by 1 if it is 0, and else by 0. Returns `Apart`, and changes
     /// nothing, if by the span a stack may lack a value.
-    fn is_zero(&mut self, set: &LaneSet, span: Span) -> Result<(), Apart>
+    fn zero_equals(&mut self, set: &LaneSet, span: Span) -> Result<(), Apart>
         requires holds { Holds span self.old.len }
         ensures { LeavesIn set.now.mask span StackWord.IsZero self.old self.new result }
     {
-        self.need(span, 1)?;
+        self.need_values(span, 1)?;
         let zeros = zeros(self.at_depth(1));
         self.len -= 1;
-        self.put(set, &zeros);
+        self.push_unchecked(set, &zeros);
         Ok(())
     }
 
@@ -311,11 +311,11 @@ impl Stacks {
     /// changes nothing, if by the span a stack may lack a value. So it does if the word would stop
     /// in a lane of the set.
     #[inline(always)]
-    fn merge(&mut self, set: &LaneSet, span: Span, merge: Merge) -> Result<(), Apart>
+    fn apply_binary(&mut self, set: &LaneSet, span: Span, merge: Merge) -> Result<(), Apart>
         requires holds { Holds span self.old.len }
         ensures { LeavesIn set.now.mask span (stack_word merge) self.old self.new result }
     {
-        self.need(span, 2)?;
+        self.need_values(span, 2)?;
         let b = self.at_depth(1);
         let a = self.at_depth(2);
         if !merge.fits_in(set, a, b) {
@@ -323,7 +323,7 @@ impl Stacks {
         }
         let left = merge.of_all(a, b);
         self.len -= 2;
-        self.put(set, &left);
+        self.push_unchecked(set, &left);
         Ok(())
     }
 }

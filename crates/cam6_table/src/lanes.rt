@@ -103,7 +103,7 @@ pub fn write_in(lanes: &mut Lanes, set: &LaneSet, span: Span, target: Target) ->
         IsSpanned span lane lanes.old.floors }
     ensures { WritesIn set.now.mask span target lanes.old lanes.new result }
 {
-    lanes.stacks.need(span, 1)?;
+    lanes.stacks.need_values(span, 1)?;
     let values = *lanes.stacks.at_depth(1);
     let low = lowest_bits(&values);
     lanes.stacks.len -= 1;

@@ -38,9 +38,9 @@ pub fn level(
         IsUntouched lanes.old lanes.new lane }
 {
     if here < there {
-        join(second, first, there, here, lanes)
+        join_levels(second, first, there, here, lanes)
     } else {
-        join(first, second, here, there, lanes)
+        join_levels(first, second, here, there, lanes)
     }
 }
 
@@ -48,7 +48,7 @@ pub fn level(
 /// Before, those of `high` end at row `from`, and those of `low` at row `to`, which isn't above it.
 /// If each stack of `high` has a gap that is wide enough, these are lowered. Otherwise those of
 /// `low` are raised.
-fn join(high: &LaneMask, low: &LaneMask, from: usize, to: usize, lanes: &mut Lanes) -> usize
+fn join_levels(high: &LaneMask, low: &LaneMask, from: usize, to: usize, lanes: &mut Lanes) -> usize
     requires each_high { (lane : ℕ) → lane < LANES → IsIn high.now lane ⊎ IsOut high.now lane }
     requires each_low { (lane : ℕ) → lane < LANES → IsIn low.now lane ⊎ IsOut low.now lane }
     requires apart { (lane : ℕ) → lane < LANES → IsIn low.now lane → IsOut high.now lane }
@@ -68,10 +68,10 @@ fn join(high: &LaneMask, low: &LaneMask, from: usize, to: usize, lanes: &mut Lan
         return from;
     }
     if from - to <= usize::from(least_in(high, &lanes.floors.widths)) {
-        lower(high, from, to, lanes);
+        lower_stacks(high, from, to, lanes);
         to
     } else {
-        raise(low, to, from, lanes);
+        raise_stacks(low, to, from, lanes);
         from
     }
 }
@@ -79,7 +79,7 @@ fn join(high: &LaneMask, low: &LaneMask, from: usize, to: usize, lanes: &mut Lan
 /// Moves up the values above the gaps, so that the stacks of a set's lanes end at row `to` instead
 /// of row `from`. Values below a gap stay where they are. A stack without a gap gets one at its
 /// top, so that all of its values stay.
-pub fn raise(set: &LaneMask, from: usize, to: usize, lanes: &mut Lanes)
+pub fn raise_stacks(set: &LaneMask, from: usize, to: usize, lanes: &mut Lanes)
     requires set { (lane : ℕ) → lane < LANES → IsIn set.now lane ⊎ IsOut set.now lane }
     requires up { from ≤ to }
     requires to { to ≤ ROWS }
@@ -90,7 +90,7 @@ pub fn raise(set: &LaneMask, from: usize, to: usize, lanes: &mut Lanes)
         IsUntouched lanes.old lanes.new lane }
 {
     let by = (to - from) as u16;
-    cut(set, from, lanes);
+    begin_gaps(set, from, lanes);
     let floors = &lanes.floors;
     move_up(&mut lanes.stacks, set, &floors.ends, to - from, from);
     let rows = raised(set, by, &floors.rows);
@@ -101,7 +101,7 @@ pub fn raise(set: &LaneMask, from: usize, to: usize, lanes: &mut Lanes)
 
 /// Begins a gap of no width at row `top` in each stack of a set that has all values in place. `top`
 /// is the row at which these stacks end.
-fn cut(set: &LaneMask, top: usize, lanes: &mut Lanes)
+fn begin_gaps(set: &LaneMask, top: usize, lanes: &mut Lanes)
     requires set { (lane : ℕ) → lane < LANES → IsIn set.now lane ⊎ IsOut set.now lane }
     requires top { top ≤ ROWS }
     ensures len { lanes.new.stacks.len ≡ lanes.old.stacks.len }
@@ -120,7 +120,7 @@ fn cut(set: &LaneMask, top: usize, lanes: &mut Lanes)
 
 /// Moves down the values above the gaps, so that the stacks of a set's lanes end at row `to`
 /// instead of row `from`. Each gap is wide enough, and values below a gap stay where they are.
-pub fn lower(set: &LaneMask, from: usize, to: usize, lanes: &mut Lanes)
+pub fn lower_stacks(set: &LaneMask, from: usize, to: usize, lanes: &mut Lanes)
     requires set { (lane : ℕ) → lane < LANES → IsIn set.now lane ⊎ IsOut set.now lane }
     requires down { to ≤ from }
     requires from { from ≤ ROWS }
@@ -189,7 +189,7 @@ fn move_down(stacks: &mut Stacks, set: &LaneMask, ends: &LaneValues, by: usize, 
 
 /// Fills the gaps in the stacks of a set's lanes down to row `low`: copies values from below a gap
 /// to their places.
-pub fn dig(set: &LaneMask, low: usize, lanes: &mut Lanes)
+pub fn fill_gaps(set: &LaneMask, low: usize, lanes: &mut Lanes)
     ensures len { lanes.new.stacks.len ≡ lanes.old.stacks.len }
     ensures inside { (lane top : ℕ) → lane < LANES → IsIn set.now lane →
         Stands lane top lanes.old.floors → IsKept top lanes.old top lanes.new lane }
@@ -198,14 +198,14 @@ pub fn dig(set: &LaneMask, low: usize, lanes: &mut Lanes)
 {
     for lane in 0..LANES {
         if set[lane] != 0 {
-            dig_in(lane, low, lanes);
+            fill_gap(lane, low, lanes);
         }
     }
 }
 
 /// Fills the gap in a lane's stack down to row `low`: copies values from below the gap to their
 /// places. If `low` is 0, the stack can be lowered to the first row afterwards.
-fn dig_in(lane: usize, low: usize, lanes: &mut Lanes)
+fn fill_gap(lane: usize, low: usize, lanes: &mut Lanes)
     requires lane { lane < LANES }
     ensures len { lanes.new.stacks.len ≡ lanes.old.stacks.len }
     ensures here { (top : ℕ) → Stands lane top lanes.old.floors →
@@ -233,7 +233,7 @@ fn dig_in(lane: usize, low: usize, lanes: &mut Lanes)
 /// Returns the width of a lane's gap after values from row `from` on were copied to their places.
 /// `low` is the row down to which the gap had to be filled. If values below `from` are left, it is
 /// the old width. If all are in place, any width is right. It is the floor if `low` is 0, so that
-/// `lower` can take the stack to the first row, and else 0.
+/// `lower_stacks` can take the stack to the first row, and else 0.
 #[inline(always)]
 fn width_after(width: u16, floor: u16, from: u16, low: usize) -> u16
     requires { width ≤ floor }

@@ -9,10 +9,10 @@ ghost use Rattle.cam6_table.specs.Internal.Lanes.{Holds, AreLeftWith};
 ghost use Rattle.cam6_table.specs.Internal.Sets.{IsIn, IsOut};
 
 use crate::codes::Instructions;
-use crate::flows::{Flow, Places, flow_of, others_at, resume, wait};
+use crate::flows::{Flow, Places, new_flow, others_at, resume, wait};
 use crate::lane_stacks::{Apart, ROWS};
 use crate::lanes::Lanes;
-use crate::levels::{dig, level, lower};
+use crate::levels::{fill_gaps, level, lower_stacks};
 use crate::sets::{IN, least_in, put_in};
 use crate::spans::span_of;
 use crate::waiting::{LaneQueue, LanesWaiting, waiting_at};
@@ -107,7 +107,7 @@ fn meet(
     let top = level(&flow.set.mask, &those, lanes.stacks.len, there, lanes);
     lanes.stacks.len = top;
     let both = put_in(&flow.set.mask, IN, &those);
-    *flow = flow_of(both, flow.remaining, queue.next_remaining(), lanes);
+    *flow = new_flow(both, flow.remaining, queue.next_remaining(), lanes);
 }
 
 /// Changes what may have kept a flow from doing an instruction in all of its lanes. Makes the
@@ -124,12 +124,12 @@ fn settle(flow: &mut Flow, lanes: &mut Lanes) -> bool
     let top = lanes.stacks.len;
     let span = span_of(&lanes.floors, &flow.set.mask, top);
     if flow.was_parted && span != flow.span {
-        *flow = flow_of(flow.set.mask, flow.remaining, flow.stops_at, lanes);
+        *flow = new_flow(flow.set.mask, flow.remaining, flow.stops_at, lanes);
         return true;
     }
     if span.bottom < span.floor && top < span.floor + READ {
-        dig(&flow.set.mask, top.saturating_sub(DUG), lanes);
-        *flow = flow_of(flow.set.mask, flow.remaining, flow.stops_at, lanes);
+        fill_gaps(&flow.set.mask, top.saturating_sub(DUG), lanes);
+        *flow = new_flow(flow.set.mask, flow.remaining, flow.stops_at, lanes);
         return true;
     }
     make_room(flow, lanes)
@@ -149,10 +149,10 @@ fn make_room(flow: &mut Flow, lanes: &mut Lanes) -> bool
     if least_in(&flow.set.mask, &lanes.floors.rows) == 0 {
         return false;
     }
-    dig(&flow.set.mask, 0, lanes);
+    fill_gaps(&flow.set.mask, 0, lanes);
     let by = usize::from(least_in(&flow.set.mask, &lanes.floors.widths)).min(top);
-    lower(&flow.set.mask, top, top - by, lanes);
+    lower_stacks(&flow.set.mask, top, top - by, lanes);
     lanes.stacks.len = top - by;
-    *flow = flow_of(flow.set.mask, flow.remaining, flow.stops_at, lanes);
+    *flow = new_flow(flow.set.mask, flow.remaining, flow.stops_at, lanes);
     by > 0
 }

@@ -47,7 +47,7 @@ impl Stack {
         if self.len == MAX_VALUES {
             return Err(RuleFault::FullStack);
         }
-        self.put(value);
+        self.push_unchecked(value);
         Ok(())
     }
 
@@ -65,7 +65,7 @@ impl Stack {
     }
 
     /// Puts a value on top. The caller has made sure that there is room.
-    pub fn put(&mut self, value: u16)
+    pub fn push_unchecked(&mut self, value: u16)
         requires room { length self.old < MAX_VALUES }
         ensures { self.new ≡ value ∷ self.old }
     {
@@ -90,7 +90,7 @@ impl Stack {
             StackWord::And => self.and(),
             StackWord::Or => self.or(),
             StackWord::Xor => self.xor(),
-            StackWord::IsZero => self.is_zero(),
+            StackWord::IsZero => self.zero_equals(),
             StackWord::Equal => self.equal(),
             StackWord::Less => self.less(),
             StackWord::Greater => self.greater(),
@@ -102,7 +102,7 @@ impl Stack {
         ensures { IsOutcome (on_stack StackWord.Dup self.old) self.new result }
     {
         let a = self.pop()?;
-        self.put(a);
+        self.push_unchecked(a);
         self.push(a)
     }
 
@@ -120,8 +120,8 @@ impl Stack {
     {
         let b = self.pop()?;
         let a = self.pop()?;
-        self.put(b);
-        self.put(a);
+        self.push_unchecked(b);
+        self.push_unchecked(a);
         Ok(())
     }
 
@@ -132,8 +132,8 @@ impl Stack {
     {
         let b = self.pop()?;
         let a = self.pop()?;
-        self.put(a);
-        self.put(b);
+        self.push_unchecked(a);
+        self.push_unchecked(b);
         self.push(a)
     }
 
@@ -145,9 +145,9 @@ impl Stack {
         let c = self.pop()?;
         let b = self.pop()?;
         let a = self.pop()?;
-        self.put(b);
-        self.put(c);
-        self.put(a);
+        self.push_unchecked(b);
+        self.push_unchecked(c);
+        self.push_unchecked(a);
         Ok(())
     }
 
@@ -161,7 +161,7 @@ impl Stack {
         let Some(sum) = a.checked_add(b) else {
             return Err(RuleFault::Range);
         };
-        self.put(sum);
+        self.push_unchecked(sum);
         Ok(())
     }
 
@@ -175,7 +175,7 @@ impl Stack {
         let Some(difference) = a.checked_sub(b) else {
             return Err(RuleFault::Range);
         };
-        self.put(difference);
+        self.push_unchecked(difference);
         Ok(())
     }
 
@@ -189,7 +189,7 @@ impl Stack {
         let Some(product) = a.checked_mul(b) else {
             return Err(RuleFault::Range);
         };
-        self.put(product);
+        self.push_unchecked(product);
         Ok(())
     }
 
@@ -199,7 +199,7 @@ impl Stack {
     {
         let b = self.pop()?;
         let a = self.pop()?;
-        self.put(a & b);
+        self.push_unchecked(a & b);
         Ok(())
     }
 
@@ -209,7 +209,7 @@ impl Stack {
     {
         let b = self.pop()?;
         let a = self.pop()?;
-        self.put(a | b);
+        self.push_unchecked(a | b);
         Ok(())
     }
 
@@ -219,16 +219,16 @@ impl Stack {
     {
         let b = self.pop()?;
         let a = self.pop()?;
-        self.put(a ^ b);
+        self.push_unchecked(a ^ b);
         Ok(())
     }
 
     /// Replaces the top value by 1 if it is 0, and else by 0. Fails if there is none.
-    fn is_zero(&mut self) -> Result<(), RuleFault>
+    fn zero_equals(&mut self) -> Result<(), RuleFault>
         ensures { IsOutcome (on_stack StackWord.IsZero self.old) self.new result }
     {
         let a = self.pop()?;
-        self.put(u16::from(a == 0));
+        self.push_unchecked(u16::from(a == 0));
         Ok(())
     }
 
@@ -239,7 +239,7 @@ impl Stack {
     {
         let b = self.pop()?;
         let a = self.pop()?;
-        self.put(u16::from(a == b));
+        self.push_unchecked(u16::from(a == b));
         Ok(())
     }
 
@@ -250,7 +250,7 @@ impl Stack {
     {
         let b = self.pop()?;
         let a = self.pop()?;
-        self.put(u16::from(a < b));
+        self.push_unchecked(u16::from(a < b));
         Ok(())
     }
 
@@ -261,7 +261,7 @@ impl Stack {
     {
         let b = self.pop()?;
         let a = self.pop()?;
-        self.put(u16::from(a > b));
+        self.push_unchecked(u16::from(a > b));
         Ok(())
     }
 }

@@ -88,8 +88,8 @@ returns-then-parts-eq0-2-clause-left c = λ next left.
           (left.outside lane below outside);
     }
 
-pub go_apart-requires-clause-parts : goal.go_apart-requires-clause-parts
-go_apart-requires-clause-parts c = λ lane below.
+pub split_flow-requires-clause-parts : goal.split_flow-requires-clause-parts
+split_flow-requires-clause-parts c = λ lane below.
     one_part (slice_index c.args.flow.now.set.mask lane)
     (slice_index c.at_depth-top.result.now lane) (slice_index c.split-parts.result.zeros lane)
     (slice_index c.split-parts.result.others lane) (c.split-parts.ensures.zeros lane below)
@@ -111,7 +111,7 @@ returns-clause-left c = λ next left.
     let others = λ (lane : ℕ). slice_index c.split-parts.result.others lane in
     let zeros_are = c.split-parts.ensures.zeros in
     let others_are = c.split-parts.ensures.others in
-    c.go_apart.ensures.left (record {
+    c.split_flow.ensures.left (record {
       within = omega arith;
       floors = left.floors;
       zeros = λ lane below inside.

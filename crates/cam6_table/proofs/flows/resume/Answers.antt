@@ -9,7 +9,7 @@ returns c = record {
       let places = c.args.places.now in
       let lanes = c.args.lanes.now in
       let those = c.others_at-those.ensures in
-      c.flow_of.ensures.left addresses code places (record {
+      c.new_flow.ensures.left addresses code places (record {
         within = let least = c.min-remaining in omega arith;
         each = λ lane below. (those lane below).each;
         inside = λ lane below inside.

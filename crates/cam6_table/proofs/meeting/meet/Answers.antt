@@ -24,7 +24,7 @@ returns c = record {
       let others = others_left addresses code c.args.flow.now places lanes left c.args.next.remaining
       c.args.next.top c.from-there.result c.others_at-those.result c.requires.here
       c.from-there.ensures c.others_at-those.ensures in
-      c.flow_of.ensures.left addresses code places (record {
+      c.new_flow.ensures.left addresses code places (record {
         within = left.within;
         each = λ lane below. each_both (set lane) (those lane) (both lane) (left.each lane below)
             (put.inside lane below) (put.outside lane below)

@@ -6,7 +6,7 @@ use Rattle.cam6_table.proofs.meeting.settle.Goals as goal
 pub returns-then-ne : goal.returns-then-ne
 returns-then-ne c = record {
   left = λ addresses code places left.
-      c.flow_of.ensures.left addresses code places (record {
+      c.new_flow.ensures.left addresses code places (record {
         within = left.within;
         each = left.each;
         inside = left.inside;
@@ -18,17 +18,17 @@ pub returns-then-top-span : goal.returns-then-top-span
 returns-then-top-span c = record {
   left = λ addresses code places left.
       let lanes = c.args.lanes.now in
-      let dug = c.dig.new.lanes in
-      c.flow_of-then-top-span.ensures.left addresses code places (record {
+      let dug = c.fill_gaps.new.lanes in
+      c.new_flow-then-top-span.ensures.left addresses code places (record {
         within = left.within;
         each = left.each;
         inside = λ lane below inside.
             let is = left.inside lane below inside in
-            left_there (slice_index addresses lane) code _ _ _ _ dug lane refl c.dig.ensures.len
+            left_there (slice_index addresses lane) code _ _ _ _ dug lane refl c.fill_gaps.ensures.len
             (kept_left (slice_index addresses lane) code _ _ lanes _ dug lane
-            (c.dig.ensures.inside lane _ below inside is.stands) is);
+            (c.fill_gaps.ensures.inside lane _ below inside is.stands) is);
         outside = λ lane below outside.
             untouched_left (slice_index addresses lane) code _ _ lanes dug lane
-            (c.dig.ensures.outside lane below outside) (left.outside lane below outside);
+            (c.fill_gaps.ensures.outside lane below outside) (left.outside lane below outside);
       });
 }

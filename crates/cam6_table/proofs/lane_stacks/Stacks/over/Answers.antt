@@ -10,8 +10,8 @@ returns c =
       each = λ lane below inside floor is.
           let said = (let low = is.low in let full = is.full in
           over_leaves lane floor s.len s.rows (omega arith) (omega arith)) in
-          let put = (let low = is.low in c.put.ensures.put lane below inside floor (omega arith)) in
+          let put = (let low = is.low in c.push_unchecked.ensures.put lane below inside floor (omega arith)) in
           cc;
-      others = c.put.ensures.others;
-      below = λ lane row low. c.put.ensures.below lane row (let under = c.requires.holds.low in omega (arith, low));
+      others = c.push_unchecked.ensures.others;
+      below = λ lane row low. c.push_unchecked.ensures.below lane row (let under = c.requires.holds.low in omega (arith, low));
     }

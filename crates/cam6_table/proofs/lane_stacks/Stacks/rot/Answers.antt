@@ -9,17 +9,17 @@ returns c =
       holds = record { low = omega arith; high = omega arith; within = c.requires.holds.within };
       each = λ lane below inside floor is.
           let said = (let low = is.low in rot_leaves lane floor s.len s.rows (omega arith)) in
-          let first = (let low = is.low in c.put.ensures.put lane below inside floor (omega arith)) in
-          let second = (let low = is.low in c.put-2.ensures.put lane below inside floor (omega arith)) in
-          let third = (let low = is.low in c.put-3.ensures.put lane below inside floor (omega arith)) in
+          let first = (let low = is.low in c.push_unchecked.ensures.put lane below inside floor (omega arith)) in
+          let second = (let low = is.low in c.push_unchecked-2.ensures.put lane below inside floor (omega arith)) in
+          let third = (let low = is.low in c.push_unchecked-3.ensures.put lane below inside floor (omega arith)) in
           cc;
       others = λ lane below outside floor top.
-          c.put-3.ensures.others lane below outside floor top ∙
-          c.put-2.ensures.others lane below outside floor top ∙
-          c.put.ensures.others lane below outside floor top;
+          c.push_unchecked-3.ensures.others lane below outside floor top ∙
+          c.push_unchecked-2.ensures.others lane below outside floor top ∙
+          c.push_unchecked.ensures.others lane below outside floor top;
       below = λ lane row low.
           let under = c.requires.holds.low in
-          c.put-3.ensures.below lane row (omega (arith, low)) ∙
-          c.put-2.ensures.below lane row (omega (arith, low)) ∙
-          c.put.ensures.below lane row (omega (arith, low));
+          c.push_unchecked-3.ensures.below lane row (omega (arith, low)) ∙
+          c.push_unchecked-2.ensures.below lane row (omega (arith, low)) ∙
+          c.push_unchecked.ensures.below lane row (omega (arith, low));
     }

@@ -4,7 +4,7 @@ use Rattle.cam6_table.specs.Internal.Lanes.{floor_of, end_of, width_of}
 use Rattle.cam6_table.proofs.Gaps.{cut_stack}
 use Rattle.cam6_table.proofs.Moving.{kept_by, kept_untouched, untouched_by}
 use Rattle.cam6_table.proofs.Parting.{if_same, if_other, if_none}
-use Rattle.cam6_table.proofs.levels.cut.Goals as goal
+use Rattle.cam6_table.proofs.levels.begin_gaps.Goals as goal
 
 pub returns-clause-inside : goal.returns-clause-inside
 returns-clause-inside c = λ lane below inside stands.

@@ -3,7 +3,7 @@ use Rattle.std.proofs.Common.{slice_index, sym, subst, ap, arith, inl, inr}
 use Rattle.std.proofs.lemmas.Bool.{cases_eq}
 use Rattle.cam6_table.specs.Internal.Lanes.{LeadsTo, outcome_from}
 use Rattle.cam6_table.proofs.Parting.{word_found, word_passed, if_same, if_other, if_none}
-use Rattle.cam6_table.proofs.flows.words_found.Goals as goal
+use Rattle.cam6_table.proofs.flows.find_case_words.Goals as goal
 
 pub loop-index-preserved : goal.loop-index-preserved
 loop-index-preserved c =

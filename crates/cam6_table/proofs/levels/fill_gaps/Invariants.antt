@@ -2,7 +2,7 @@ use Rattle.std.proofs.Common.{◌≡◌, ◌<◌, ◌≤◌, ℕ}
 use Rattle.cam6_table.specs.declared.lane_values.TheConstants.{LANES}
 use Rattle.cam6_table.specs.Internal.Lanes.{Stands, IsKept, IsUntouched}
 use Rattle.cam6_table.specs.Internal.Sets.{IsIn, IsOut}
-use Rattle.cam6_table.proofs.levels.dig.Given as goal
+use Rattle.cam6_table.proofs.levels.fill_gaps.Given as goal
 
 -- the lanes so far have their states, and in the others nothing was done
 abbrev pub invariant-loop-lane : goal.invariant-loop-lane

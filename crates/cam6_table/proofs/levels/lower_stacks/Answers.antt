@@ -2,7 +2,7 @@ use Rattle.std.proofs.Common.{◌≡◌, ◌∙◌, ◌+◌, ◌-◌, slice_inde
 use Rattle.cam6_table.specs.Internal.Lanes.{floor_of, end_of, width_of, value_at}
 use Rattle.cam6_table.proofs.Gaps.{moved_stack}
 use Rattle.cam6_table.proofs.Moving.{kept_by, untouched_by}
-use Rattle.cam6_table.proofs.levels.lower.Goals as goal
+use Rattle.cam6_table.proofs.levels.lower_stacks.Goals as goal
 
 pub returns-clause-inside : goal.returns-clause-inside
 returns-clause-inside c = λ lane below inside stands.

@@ -4,7 +4,7 @@ use Rattle.std.proofs.lemmas.List.{get_or-set_same, get_or-set_other}
 use Rattle.cam6_table.specs.Internal.Lanes.{column, value_at, floor_of, end_of, width_of}
 use Rattle.cam6_table.proofs.Gaps.{any_width, dug_stack, lies_so}
 use Rattle.cam6_table.proofs.Moving.{kept_by, untouched_by}
-use Rattle.cam6_table.proofs.levels.dig_in.Goals as goal
+use Rattle.cam6_table.proofs.levels.fill_gap.Goals as goal
 
 pub returns-clause-here : goal.returns-clause-here
 returns-clause-here c = λ top stands.

@@ -1,7 +1,7 @@
 use Rattle.std.proofs.Common.{List, ℕ, subst, sym}
 use Rattle.cam6_table.specs.Internal.Sets.{IsIn}
 use Rattle.cam6_table.specs.Internal.Lanes.{AreLeftAt}
-use Rattle.cam6_table.proofs.flows.flow_of.Goals as goal
+use Rattle.cam6_table.proofs.flows.new_flow.Goals as goal
 
 pub returns : goal.returns
 returns c = record {

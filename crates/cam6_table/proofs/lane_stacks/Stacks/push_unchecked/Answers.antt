@@ -1,7 +1,7 @@
 use Rattle.std.proofs.Common.{◌+◌, List, ℕ, [], slice_index, ap, refl, arith}
 use Rattle.std.proofs.lemmas.List.{get_or-set_other}
 use Rattle.cam6_table.proofs.Columns.{column_kept, column_more}
-use Rattle.cam6_table.proofs.lane_stacks.Stacks.put.Goals as goal
+use Rattle.cam6_table.proofs.lane_stacks.Stacks.push_unchecked.Goals as goal
 
 pub returns-clause-put : goal.returns-clause-put
 returns-clause-put c = λ lane below inside floor low.

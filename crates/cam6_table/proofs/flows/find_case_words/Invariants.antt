@@ -3,7 +3,7 @@ use Rattle.cam6_table.specs.declared.lane_values.TheConstants.{LANES}
 use Rattle.cam6_table.specs.declared.outputs.State.{State}
 use Rattle.cam6_table.specs.Internal.Sets.{IsIn, IsOut}
 use Rattle.cam6_table.specs.Internal.Lanes.{outcome_from, LeadsTo}
-use Rattle.cam6_table.proofs.flows.words_found.Given as goal
+use Rattle.cam6_table.proofs.flows.find_case_words.Given as goal
 
 -- lanes with the indices so far are at their words, and the search for others goes on
 abbrev pub invariant-loop-index : goal.invariant-loop-index

@@ -2,13 +2,13 @@ use Rattle.std.proofs.Common.{◌≡◌, ◌∙◌, ◌+◌, ◌-◌, slice_inde
 use Rattle.cam6_table.specs.Internal.Lanes.{floor_of, end_of, width_of, value_at}
 use Rattle.cam6_table.proofs.Gaps.{moved_stack}
 use Rattle.cam6_table.proofs.Moving.{kept_by, kept_then, untouched_by, untouched_then}
-use Rattle.cam6_table.proofs.levels.raise.Goals as goal
+use Rattle.cam6_table.proofs.levels.raise_stacks.Goals as goal
 
 pub returns-clause-inside : goal.returns-clause-inside
 returns-clause-inside c = λ lane below inside stands.
-    let cut = c.cut.new.lanes in
+    let cut = c.begin_gaps.new.lanes in
     let new = c.move_up.new.stacks in
-    let first = c.cut.ensures.inside lane below inside stands in
+    let first = c.begin_gaps.ensures.inside lane below inside stands in
     let deep = first.stands.deep in
     let begins = first.stands.begins in
     let in_place = first.stands.in_place in
@@ -43,8 +43,8 @@ returns-clause-inside c = λ lane below inside stands.
 
 pub returns-clause-outside : goal.returns-clause-outside
 returns-clause-outside c = λ lane below outside.
-    untouched_then c.args.lanes.now c.cut.new.lanes _ lane (c.cut.ensures.outside lane below outside)
-    (untouched_by c.cut.new.lanes c.move_up.new.stacks _ lane
+    untouched_then c.args.lanes.now c.begin_gaps.new.lanes _ lane (c.begin_gaps.ensures.outside lane below outside)
+    (untouched_by c.begin_gaps.new.lanes c.move_up.new.stacks _ lane
     (c.raised-rows.ensures.outside lane below outside)
     (c.raised-ends.ensures.outside lane below outside)
     (c.raised-widths.ensures.outside lane below outside)

@@ -3,8 +3,8 @@ use Rattle.std.proofs.lemmas.Bool.{cases_eq}
 use Rattle.cam6_table.specs.declared.lanes.Lanes.{Lanes}
 use Rattle.cam6_table.specs.Internal.Lanes.{Stands, IsKept, IsUntouched}
 use Rattle.cam6_table.proofs.Moving.{kept_then, kept_untouched, untouched_then}
-use Rattle.cam6_table.proofs.levels.dig.Goals as goal
-use Rattle.cam6_table.proofs.levels.dig.Goals.{then-set-lane-ne0, else-set-lane-ne0}
+use Rattle.cam6_table.proofs.levels.fill_gaps.Goals as goal
+use Rattle.cam6_table.proofs.levels.fill_gaps.Goals.{then-set-lane-ne0, else-set-lane-ne0}
 
 pub loop-lane-preserved : goal.loop-lane-preserved
 loop-lane-preserved c =
@@ -14,8 +14,8 @@ loop-lane-preserved c =
     let set = c.args.set.now in
     let before = l.invariant in
     elim c.if-set-lane-ne0.branch [
-      | then-set-lane-ne0 w ↦ (let new = w.dig_in.new.lanes in
-          let dig = w.dig_in.ensures in
+      | then-set-lane-ne0 w ↦ (let new = w.fill_gap.new.lanes in
+          let dig = w.fill_gap.ensures in
           let some = w.if-set-lane-ne0.true in
           let is = sym w.lanes-is in
           record {

@@ -1,6 +1,6 @@
 use Rattle.std.proofs.Common.{arith}
 use Rattle.cam6_table.proofs.LaneWords.{is_zero_leaves}
-use Rattle.cam6_table.proofs.lane_stacks.Stacks.is_zero.Goals as goal
+use Rattle.cam6_table.proofs.lane_stacks.Stacks.zero_equals.Goals as goal
 
 pub returns : goal.returns
 returns c =
@@ -9,9 +9,9 @@ returns c =
       holds = record { low = omega arith; high = omega arith; within = c.requires.holds.within };
       each = λ lane below inside floor is.
           let said = (let low = is.low in is_zero_leaves lane floor s.len s.rows (omega arith)) in
-          let put = (let low = is.low in c.put.ensures.put lane below inside floor (omega arith)) in
+          let put = (let low = is.low in c.push_unchecked.ensures.put lane below inside floor (omega arith)) in
           let zero = c.zeros-zeros.ensures lane below in
           cc;
-      others = c.put.ensures.others;
-      below = λ lane row low. c.put.ensures.below lane row (let under = c.requires.holds.low in omega (arith, low));
+      others = c.push_unchecked.ensures.others;
+      below = λ lane row low. c.push_unchecked.ensures.below lane row (let under = c.requires.holds.low in omega (arith, low));
     }

@@ -5,7 +5,7 @@ use Rattle.cam6_table.specs.Internal.Sets.{IsIn}
 use Rattle.cam6_table.proofs.Parting.{kept_left, same_left, left_there}
 use Rattle.cam6_table.proofs.StepByStep.{spanned_within}
 use Rattle.cam6_table.proofs.TakenAlong.{untouched_left}
-use Rattle.cam6_table.proofs.flows.go_apart.Goals as goal
+use Rattle.cam6_table.proofs.flows.split_flow.Goals as goal
 
 pub returns-then-remaining-target-clause-left : goal.returns-then-remaining-target-clause-left
 returns-then-remaining-target-clause-left c = λ split.
