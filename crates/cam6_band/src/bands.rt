@@ -51,7 +51,7 @@ pub enum Next {
 }
 
 impl MidStep {
-    /// Rows that are new: a multiple of sixteen, below the side.
+    /// Returns how many rows are new already: a multiple of sixteen, below the side.
     pub fn rows(&self) -> u16
         ensures rows { result ≡ self.now.done }
         ensures within { result < width self.now.planes }
@@ -60,7 +60,7 @@ impl MidStep {
         self.done as u16
     }
 
-    /// The side of the image, at most its limit.
+    /// Returns the side of the image, at most its limit.
     pub fn side(&self) -> Side
         ensures side { result ≡ self.now.planes.side }
         ensures within { width self.now.planes ≤ side_number self.now.planes.limit }
@@ -68,14 +68,15 @@ impl MidStep {
         self.image.side()
     }
 
-    /// The largest side that the image may have.
+    /// Returns the largest side that the image may have.
     pub fn limit(&self) -> Side
         ensures { result ≡ self.now.planes.limit }
     {
         self.image.limit()
     }
 
-    /// As `band_in`, with scratch that is made for this band alone.
+    /// Makes the next sixteen rows, by the tables of the step, with scratch that it makes for this
+    /// band alone. Returns the step, or the whole image if these rows were the last.
     pub fn band(self, tables: &EntryTables) -> Next
         ensures next { let s = width self.planes in (o : Cells) →
             Partway o (step_by s (values_of tables.now) o) self →
@@ -87,7 +88,8 @@ impl MidStep {
     }
 
     /// Makes the next sixteen rows, by the tables of the step. Returns the step, or the whole image
-    /// if these rows were the last. The scratch is lent for it, and may hold anything before.
+    /// if these rows were the last. The scratch may hold anything before, and nothing of it is
+    /// needed afterwards.
     pub fn band_in(mut self, tables: &EntryTables, scratch: &mut Scratch) -> Next
         ensures next { let s = width self.planes in (o : Cells) →
             Partway o (step_by s (values_of tables.now) o) self →
@@ -109,7 +111,8 @@ impl MidStep {
         self.done + BAND == self.image.side().number()
     }
 
-    /// As `band_in`, in place, if the band isn't the last one of the step.
+    /// Makes the next sixteen rows in place, by the tables of the step. They must not be the last
+    /// ones of the image.
     pub fn go_on(&mut self, tables: &EntryTables, scratch: &mut Scratch)
         requires { self.old.done + band < width self.old.planes }
         ensures partway { let s = width self.old.planes in (o : Cells) →
@@ -129,7 +132,7 @@ impl MidStep {
         self.done += BAND;
     }
 
-    /// As `band_in`, if the band is the last one of the step.
+    /// Makes the last sixteen rows, by the tables of the step, and returns the whole image.
     pub fn end(mut self, tables: &EntryTables, scratch: &mut Scratch) -> AtRest
         requires { self.done + band ≡ width self.planes }
         ensures planes { let s = width self.planes in (o : Cells) →
@@ -154,7 +157,8 @@ impl MidStep {
         AtRest { planes: image }
     }
 
-    /// Moves the step to another image, to go on there. Its own image becomes spare.
+    /// Copies the image of a step into another one, where the step goes on. Returns the step, and
+    /// its old image as a spare one.
     pub fn move_into(self, spare: Spare) -> (MidStep, Spare)
         requires { width self.planes ≤ side_number spare.planes.limit }
         ensures partway { (o p : Cells) → Partway o p self → Partway o p result.0 }

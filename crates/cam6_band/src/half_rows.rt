@@ -33,7 +33,7 @@ pub(crate) struct HalfRows {
 }
 
 impl PlaneRows {
-    /// Rows that aren't written. To put them changes nothing.
+    /// Makes rows that are marked as not written, so that `put` changes nothing.
     fn blank() -> PlaneRows {
         PlaneRows {
             rows: [[0; UNIT]; 2],
@@ -41,8 +41,8 @@ impl PlaneRows {
         }
     }
 
-    /// Puts the rows in the place of those of plane `p` from row `y` on. If they weren't written,
-    /// changes nothing.
+    /// Writes the rows to plane `p` of the image, from row `y` on. If they are marked as not
+    /// written, changes nothing.
     fn put(&self, image: &mut Planes, p: usize, y: usize)
         requires plane { p < 4 }
         requires rows { y + band ≤ width image.old }
@@ -61,7 +61,7 @@ impl PlaneRows {
 }
 
 impl HalfRows {
-    /// Rows that aren't written, in either plane. To put them changes nothing.
+    /// Makes rows of both planes that are marked as not written, so that `put` changes nothing.
     pub(crate) fn blank() -> HalfRows {
         HalfRows {
             lower: PlaneRows::blank(),
@@ -69,7 +69,8 @@ impl HalfRows {
         }
     }
 
-    /// Makes the new rows of a band, by the half's table.
+    /// Makes a half's new rows of a band, by the half's table. If it marks a plane's rows as not
+    /// written, each of their cells keeps its bit.
     pub(crate) fn make(
         &mut self,
         scratch: &mut TableScratch,
@@ -91,8 +92,8 @@ impl HalfRows {
         self.upper.is_written = written.upper;
     }
 
-    /// Puts each plane's rows in the place of the half's from row `y` on. A plane whose rows
-    /// weren't written stays as it is.
+    /// Writes the rows to the half's planes of the image, from row `y` on. A plane whose rows are
+    /// marked as not written stays as it is.
     pub(crate) fn put(&self, image: &mut Planes, half: Half, y: usize)
         requires { y + band ≤ width image.old }
         ensures half { (level : Level) (x r : ℕ) → x < width image.old → r < band →
@@ -112,8 +113,8 @@ impl HalfRows {
     }
 }
 
-/// Writes the rows of plane `p` from row `y` on. Each side has a loop of its own, compiled for its
-/// rows.
+/// Writes a band's rows to plane `p` of the image, from row `y` on. Each side has a loop of its
+/// own, compiled for its length of rows.
 fn put_rows(image: &mut Planes, p: usize, y: usize, rows: &BandRows)
     requires plane { p < 4 }
     requires rows { y + band ≤ width image.old }
@@ -131,7 +132,8 @@ fn put_rows(image: &mut Planes, p: usize, y: usize, rows: &BandRows)
     }
 }
 
-/// As `put_rows`, at this side.
+/// Writes a band's rows to plane `p` of an image of this side, from row `y` on. The caller gives
+/// the side as a constant, so that the loop is compiled for it.
 #[inline(always)]
 fn put_rows_at(image: &mut Planes, side: Side, p: usize, y: usize, rows: &BandRows)
     requires side { side ≡ image.old.side }

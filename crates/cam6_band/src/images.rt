@@ -23,14 +23,14 @@ pub struct Spare {
 impl AtRest {
     ghost use Rattle.cam6_band.specs.Lending.{LendsPlanes};
 
-    /// The image that shows these planes.
+    /// Returns the image that has these planes.
     pub fn of(planes: Planes) -> AtRest
         ensures { result.planes ≡ planes }
     {
         AtRest { planes }
     }
 
-    /// Gives up the image, and returns the planes that it shows.
+    /// Gives up the image, and returns its planes.
     pub fn into_planes(self) -> Planes
         ensures { result ≡ self.planes }
     {
@@ -38,14 +38,14 @@ impl AtRest {
         planes
     }
 
-    /// The planes that the image shows.
+    /// Lends the image's planes to be read.
     pub fn planes(&self) -> &Planes
         ensures { result.now ≡ self.now.planes }
     {
         &self.planes
     }
 
-    /// Lends the planes. What is written to them is in the image afterwards.
+    /// Lends the image's planes to be changed.
     pub fn planes_mut(&mut self) -> &mut Planes
         ensures* writes_back { sem 𝓛 (LendsPlanes self.entry result) }
         ensures value { result.now ≡ self.old.planes }
@@ -73,21 +73,21 @@ impl AtRest {
 }
 
 impl Spare {
-    /// Makes an image of these planes that may be overwritten.
+    /// Makes a spare image of these planes: one that may be overwritten.
     pub fn of(planes: Planes) -> Spare
         ensures { result.planes ≡ planes }
     {
         Spare { planes }
     }
 
-    /// The largest side that the image may have.
+    /// Returns the largest side that the image may have.
     pub fn limit(&self) -> Side
         ensures { result ≡ self.now.planes.limit }
     {
         self.planes.limit()
     }
 
-    /// Gives up the image, and returns its planes. Nobody needs what they show.
+    /// Gives up the image, and returns its planes. What they hold doesn't matter.
     pub fn into_planes(self) -> Planes
         ensures { result ≡ self.planes }
     {

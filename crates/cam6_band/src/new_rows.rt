@@ -49,7 +49,9 @@ pub(crate) fn step_band(
     }
 }
 
-/// As `step_band`, if half A has this table. Its rows are made first and written last.
+/// Writes the sixteen new rows of both halves from row `y` on over the old ones. Half A has the
+/// table `by`, and its rows are made first and written last. Uses `last` and `first` as `step_band`
+/// does.
 #[inline(never)]
 fn step_halves(
     image: &mut Planes,
@@ -82,8 +84,8 @@ fn step_halves(
     scratch.a.put(image, Half::A, y);
 }
 
-/// Writes a half's new rows over the old ones, if it has a table. With or without one, copies the
-/// last of the old rows to `last`.
+/// Writes a half's sixteen new rows from row `y` on over the old ones, if the half has a table.
+/// With or without one, copies the last of the old rows to `last`.
 fn step_half(
     image: &mut Planes,
     last: &mut CellRow,
@@ -112,7 +114,8 @@ fn step_half(
     }
 }
 
-/// As `step_half`, if the half has this table.
+/// Writes a half's sixteen new rows from row `y` on over the old ones, by its table. Copies the
+/// last of the old rows to `last`.
 #[inline(never)]
 fn step_by_table(
     image: &mut Planes,
@@ -142,7 +145,8 @@ fn step_by_table(
     scratch.rows.put(image, setting.half, y);
 }
 
-/// The old rows from row `y` on, with those beside them.
+/// Returns the band of the sixteen old rows from row `y` on, with the row `last` to their north and
+/// the one to their south.
 fn old_rows<'a>(image: &'a Planes, last: &'a CellRow, first: &'a CellRow, y: usize) -> Band<'a>
     requires { y + band ≤ width image.now }
     ensures rows { (f : Cells) →
@@ -159,7 +163,8 @@ fn old_rows<'a>(image: &'a Planes, last: &'a CellRow, first: &'a CellRow, y: usi
     }
 }
 
-/// The old row to the south of row `y`. For the image's last row it is `first`, the old row 0.
+/// Returns the old row to the south of row `y`. For the image's last row it is `first`, the old row
+/// 0.
 fn row_to_the_south<'a>(image: &'a Planes, first: &'a CellRow, y: usize) -> &'a CellRow
     requires { y < width image.now }
     ensures within { y + 1 < width image.now →

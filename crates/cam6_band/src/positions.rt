@@ -10,8 +10,8 @@ use crate::tables::{EntryTables, HalfTable};
 use cam6_cycle::{Cycle, Direction, Entry, HalfRule};
 use cam6_entries::Table;
 
-/// Returns the tables that a step this way from a position uses, and the position after the step.
-/// `tables` lie as the cycle needs them, one for each use of a rule.
+/// Returns the tables that a step in this direction from a position uses, and the position after
+/// the step. `tables` has those that the cycle needs, one for each use of a rule, in their order.
 pub fn go_by<'a>(
     cycle: &Cycle,
     position: usize,
@@ -34,8 +34,8 @@ pub fn go_by<'a>(
     (own, after)
 }
 
-/// An entry's tables, which lie from the index on, half A's before half B's. A half without a rule
-/// has none, and takes no place.
+/// Returns an entry's tables, which are in `tables` from the index on, half A's before half B's. A
+/// half without a rule has none, and takes no place.
 fn tables_from<'a>(entry: Entry, index: usize, tables: &'a [Table]) -> EntryTables<'a>
     requires room { index + 2 ≤ length tables.now }
     ensures { values_of result ≡ tables_from index entry tables.now }
@@ -49,7 +49,8 @@ fn tables_from<'a>(entry: Entry, index: usize, tables: &'a [Table]) -> EntryTabl
     }
 }
 
-/// The table at an index, for a half with this rule. Returns `None` for a half without a rule.
+/// Returns the table at an index, for a half with this rule. Returns `None` for a half without a
+/// rule.
 fn half_table<'a>(
     rule: Option<HalfRule>,
     tables: &'a [Table],

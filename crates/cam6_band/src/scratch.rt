@@ -20,7 +20,7 @@ pub(crate) struct HalfScratch {
 }
 
 impl Scratch {
-    /// Scratch for the bands of any step.
+    /// Makes scratch for the bands of any step. Does not allocate.
     pub fn blank() -> Scratch {
         Scratch {
             a: HalfRows::blank(),

@@ -24,7 +24,7 @@ pub struct EntryTables<'a> {
 }
 
 impl<'a> EntryTables<'a> {
-    /// The grid and the phase, for a half.
+    /// Returns the grid and the phase of the entry, for a half.
     pub(crate) fn setting(&self, half: Half) -> Setting
         ensures { result ≡ setting_by half (values_of self.now) }
     {

@@ -15,8 +15,8 @@ pub(crate) const CORNERS: u8 = 4;
 /// States of a block.
 pub(crate) const STATES: u16 = 256;
 
-/// The address that a corner shows. It sees its block on lines 0 to 7. What it sees on the others
-/// doesn't depend on its block's state.
+/// Returns the address that a corner of a block with this state sees. It sees its block on lines 0
+/// to 7. What it sees on the other lines doesn't depend on the state.
 #[tactic(auto, unfolding(crate::specs::Blocks::corner_address))]
 pub(crate) fn corner_address(hood: Hood, minor: Minor, phase: Phase, state: u8, corner: u8) -> u16
     requires margolus { is_margolus hood ≡ true }
@@ -30,7 +30,8 @@ pub(crate) fn corner_address(hood: Hood, minor: Minor, phase: Phase, state: u8, 
     first_eight + 256 * next_two + 1024 * last_two
 }
 
-/// A corner's two bits of a block's state, as an entry has them. Bit 0 is the lower plane's.
+/// Returns a corner's two bits in a block's state, as an entry has them. Bit 0 is the lower
+/// plane's.
 #[tactic(auto, unfolding(crate::specs::Blocks::corner_bits))]
 pub(crate) fn corner_bits(state: u8, corner: u8) -> u8
     ensures bits { result ≡ corner_bits state corner }
@@ -39,8 +40,8 @@ pub(crate) fn corner_bits(state: u8, corner: u8) -> u8
     bit_at(state, Level::Lower, corner) + 2 * bit_at(state, Level::Upper, corner)
 }
 
-/// What a corner sees on lines 0 to 7, as a number. Its lowest bits are the corner's own two. Then
-/// come the other corners' lower bits, and then their upper ones.
+/// Returns what a corner sees on lines 0 to 7, as a number. Its lowest bits are the corner's own
+/// two. Then come the other corners' lower bits, and then their upper ones.
 fn block_lines(state: u8, corner: u8) -> u8
     requires corner { corner < CORNERS }
     ensures { result ≡ number_of
@@ -55,8 +56,8 @@ fn block_lines(state: u8, corner: u8) -> u8
     corner_bits(state, corner) + 4 * lower + 32 * upper
 }
 
-/// The bits that a corner sees clockwise, counter-clockwise and opposite, as a number. The first of
-/// them is its lowest bit.
+/// Returns the bits that a corner sees clockwise, counter-clockwise and opposite in one plane, as a
+/// number. The first of them is its lowest bit.
 fn bits_beside(state: u8, level: Level, corner: u8) -> u8
     requires corner { corner < CORNERS }
     ensures bits { result ≡ number_of
@@ -70,7 +71,8 @@ fn bits_beside(state: u8, level: Level, corner: u8) -> u8
     clockwise + 2 * counter_clockwise + 4 * opposite
 }
 
-/// The bit that a state has at a corner. Corner 4 is corner 0 again.
+/// Returns the bit that a block's state has at a corner in one plane, 0 or 1. Corner 4 is corner 0
+/// again.
 #[tactic(auto, unfolding(crate::specs::Blocks::corner_bit))]
 fn bit_at(state: u8, level: Level, corner: u8) -> u8
     ensures bit { result ≡ number_of (corner_bit state level corner ∷ []) }
@@ -83,8 +85,8 @@ fn bit_at(state: u8, level: Level, corner: u8) -> u8
     state >> (corner % CORNERS + first) & 1
 }
 
-/// What a corner sees on lines 8 and 9, as a number from 0 to 3: the phase, or its own column and
-/// row. It is 0 for hoods with neither of them there.
+/// Returns what a corner sees on lines 8 and 9, as a number from 0 to 3: the phase, or its own
+/// column and row. It is 0 for hoods with neither of them there.
 fn hood_lines(hood: Hood, phase: Phase, corner: u8) -> u8
     ensures lines { result ≡ number_of (map (line_shows (corner_sees phase 0 corner))
         (drop 8 (hood_names hood))) }
@@ -97,8 +99,8 @@ fn hood_lines(hood: Hood, phase: Phase, corner: u8) -> u8
     }
 }
 
-/// What a corner sees on lines 10 and 11, as a number from 0 to 3. A block sees nothing of the
-/// other half's centres, so it is 0 for them.
+/// Returns what a corner sees on lines 10 and 11, as a number from 0 to 3. It is 0 for the other
+/// half's centres, of which a block sees nothing.
 fn minor_lines(minor: Minor, phase: Phase, corner: u8) -> u8
     ensures lines { result ≡ number_of (map (line_shows (corner_sees phase 0 corner))
         (minor_names minor)) }
@@ -111,7 +113,7 @@ fn minor_lines(minor: Minor, phase: Phase, corner: u8) -> u8
     }
 }
 
-/// 1 in the right column, and 2 more in the lower row.
+/// Returns where a corner is in its block: 1 in the right column, plus 2 in the lower row.
 fn column_and_row(corner: u8) -> u8
     ensures sides { result ≡ number_of (is_right corner ∷ is_low corner ∷ []) }
     ensures within { result < 4 }

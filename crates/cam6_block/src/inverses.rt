@@ -18,7 +18,7 @@ use cam6_wiring::{Hood, Minor, Phase};
 /// The phases, each at its number.
 const PHASES: [Phase; 4] = [Phase::P0, Phase::P1, Phase::P2, Phase::P3];
 
-/// Writes the table that undoes the blocks of `table` to `out`. If `table` is not reversible,
+/// Writes to `out` the table that undoes what `table` does to blocks. If `table` is not reversible,
 /// returns the reason and leaves `out` unchanged. Does not allocate.
 pub fn invert(table: &Table, hood: Hood, minor: Minor, out: &mut Table) -> Result<(), NotReversible>
     ensures inverted { IfOk result (λ _.
@@ -46,7 +46,8 @@ pub fn invert(table: &Table, hood: Hood, minor: Minor, out: &mut Table) -> Resul
     Ok(())
 }
 
-/// Writes to each address its own two lowest bits.
+/// Writes to each address of `out` its own two lowest bits, which are the centre. So a cell keeps
+/// its bits at an address that no corner sees.
 fn fill_hidden(out: &mut Table)
     ensures whole { length out.new ≡ addresses }
     ensures entries { (address : ℕ) → address < addresses →
@@ -57,7 +58,8 @@ fn fill_hidden(out: &mut Table)
     }
 }
 
-/// Writes to each address that a corner shows the bits that the corner had before.
+/// Writes to `out`, at each address that a corner sees, the bits that the corner had before the
+/// step by `table`.
 fn fill_shown(table: &Table, hood: Hood, minor: Minor, out: &mut Table)
     requires margolus { is_margolus hood ≡ true }
     requires one_to_one { (phase : Phase) →

@@ -39,8 +39,8 @@ pub(crate) struct Pair {
     pub(crate) b: u8,
 }
 
-/// Returns the least state that has the successor of a smaller one, as `b`, and the smaller one as
-/// `a`. Returns `None` if no two states have one successor.
+/// Finds the least state that has the same successor as a smaller one. Returns it as `b`, and the
+/// smaller one as `a`. Returns `None` if no two states have one successor.
 pub(crate) fn meeting(table: &Table, hood: Hood, minor: Minor, phase: Phase) -> Option<Pair>
     requires margolus { is_margolus hood ≡ true }
     ensures some { IfSome result (λ pair.

@@ -15,10 +15,10 @@ use cam6_cycle::Direction;
 use cam6_table::{Code, ENTRIES, Table, fill};
 use cam6_wiring::Wiring;
 
-/// Fills `out` for a rule's code. Forward it becomes the table of the rule's words. Backward it
-/// first fills `straight`, which may hold anything, with that table, and inverts it into `out`. If
-/// no table undoes the rule's blocks, returns the reason, and `out` stays as it was. `out` gets its
-/// program here, and its copies have it too. Does not allocate.
+/// Fills `out` from a rule's code. Forward, it becomes the table of the rule. Backward, `forward`
+/// becomes that table, whatever it held before, and `out` its inverse. If no table undoes the
+/// rule's blocks, returns the reason, and `out` stays as it was. `out` gets its program here, and
+/// its copies have it too. Does not allocate.
 pub fn fill_by(
     code: &Code,
     wiring: Wiring,
@@ -55,7 +55,7 @@ pub fn fill_by(
     }
 }
 
-/// Fills the table of code that stops at no address.
+/// Fills the table from code that stops at no address.
 fn fill_straight(code: &Code, table: &mut Table)
     requires runs { (address : ℕ) → address < addresses → IsOk (result_at code.now address) }
     ensures entries { AreEntries (result_at code.now) table.new }

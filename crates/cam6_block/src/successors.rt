@@ -12,7 +12,7 @@ use crate::corners::{CORNERS, corner_address};
 use cam6_table::Table;
 use cam6_wiring::{Hood, Minor, Phase};
 
-/// The state that a block gets from the table, at this phase, if it has `state`.
+/// Returns the state that a block with this state gets by the table, at this phase.
 #[tactic(auto, unfolding(crate::specs::BlockMaps::block_map, crate::specs::Blocks::state_of))]
 pub(crate) fn successor(table: &Table, hood: Hood, minor: Minor, phase: Phase, state: u8) -> u8
     requires margolus { is_margolus hood ≡ true }
@@ -33,7 +33,7 @@ pub(crate) fn successor(table: &Table, hood: Hood, minor: Minor, phase: Phase, s
     lower_plane + 16 * upper_plane
 }
 
-/// The entry at the address that a corner shows.
+/// Returns the table's entry for a corner of a block with this state: the corner's two new bits.
 #[tactic(auto, unfolding(crate::specs::Blocks::corner_address))]
 fn new_bits(table: &Table, hood: Hood, minor: Minor, phase: Phase, state: u8, corner: u8) -> u8
     requires margolus { is_margolus hood ≡ true }
@@ -43,7 +43,7 @@ fn new_bits(table: &Table, hood: Hood, minor: Minor, phase: Phase, state: u8, co
     table.at(corner_address(hood, minor, phase, state, corner))
 }
 
-/// The lower plane's bit of an entry, which is its bit 0.
+/// Returns bit 0 of an entry, the new bit of the lower plane.
 fn lower_bit(bits: u8) -> u8
     ensures bit { result ≡ number_of (bit_for Lower bits ∷ []) }
     ensures within { result < 2 }
@@ -51,7 +51,7 @@ fn lower_bit(bits: u8) -> u8
     bits % 2
 }
 
-/// The upper plane's bit of an entry, which is its bit 1.
+/// Returns bit 1 of an entry, the new bit of the upper plane.
 fn upper_bit(bits: u8) -> u8
     ensures bit { result ≡ number_of (bit_for Upper bits ∷ []) }
     ensures within { result < 2 }

@@ -41,7 +41,7 @@ impl Model for Cycle {
 }
 
 impl Cycle {
-    /// Returns the cycle of these entries, or `CycleFault` if they are not 1 to 16.
+    /// Returns the cycle of these entries, or `CycleFault` if there isn't 1 to 16 of them.
     pub fn new(entries: &[Entry]) -> Result<Cycle, CycleFault>
         ensures { result ≡ cycle_of entries.now }
     {
@@ -55,7 +55,7 @@ impl Cycle {
         }
     }
 
-    /// The same entries, as a cycle of their own.
+    /// Returns another cycle of the same entries.
     pub fn copy(&self) -> Cycle
         ensures { result ≡ self.now }
     {
@@ -73,7 +73,8 @@ impl Cycle {
         self.entries.as_slice()
     }
 
-    /// The entry at a position, and the position after it. After the last position comes 0.
+    /// Returns the entry at a position, which a step forward does, and the position after it. After
+    /// the last position comes 0.
     pub fn forward(&self, position: usize) -> (Entry, usize)
         requires { position < length self.now }
         ensures entry { slice_get self.now position ≡ Some result.0 }
@@ -84,8 +85,8 @@ impl Cycle {
         (entries[position], (position + 1) % entries.len())
     }
 
-    /// The entry before a position, and that entry's own position. Before position 0 is the last
-    /// entry.
+    /// Returns the entry before a position, which a step backward undoes, and that entry's own
+    /// position. Before position 0 is the last entry.
     pub fn backward(&self, position: usize) -> (Entry, usize)
         requires { position < length self.now }
         ensures entry { slice_get self.now result.1 ≡ Some result.0 }
@@ -101,7 +102,8 @@ impl Cycle {
         (entries[before], before)
     }
 
-    /// The entry that a step this way from a position uses, and the position after the step.
+    /// Returns the entry that a step in this direction from a position uses, and the position after
+    /// the step.
     pub fn go(&self, position: usize, direction: Direction) -> (Entry, usize)
         requires { position < length self.now }
         ensures entry { slice_get self.now (entry_index direction (length self.now) position)
@@ -115,8 +117,8 @@ impl Cycle {
         }
     }
 
-    /// The tables that the steps of the cycle use, one for each use of a rule: entry by entry,
-    /// half A's before half B's.
+    /// Returns which tables the steps of the cycle need in a direction, one for each use of a rule.
+    /// They are in the order of the entries, half A's before half B's.
     pub fn tables_needed(&self, direction: Direction) -> ArrayVec<NeededTable, MAX_TABLES>
         ensures tables { result.items ≡ tables_needed direction self.now }
         // There is room for those of the longest cycle.
@@ -130,8 +132,8 @@ impl Cycle {
         tables
     }
 
-    /// How many tables of `tables_needed` stand before those of the entry at a position. They are
-    /// as many in both directions.
+    /// Returns how many of the tables that the cycle needs stand before those of the entry at a
+    /// position. The number is the same in both directions.
     pub fn tables_before(&self, position: usize) -> usize
         requires { position < length self.now }
         ensures before { (direction : Direction) →

@@ -31,7 +31,7 @@ pub struct NeededTable {
 impl Default for NeededTable {
     ghost is_default = { λ table. table ≡ unused_table };
 
-    /// What stands where none is used.
+    /// Returns a table that no cycle needs, for unused places of an array.
     fn default() -> NeededTable {
         NeededTable {
             half: Half::A,
@@ -45,7 +45,7 @@ impl Default for NeededTable {
     }
 }
 
-/// Adds the table that a half needs for its rule. For a half without a rule adds nothing.
+/// Adds to `tables` the one that a half needs for its rule. If the half has no rule, adds nothing.
 pub(crate) fn add_table(
     tables: &mut ArrayVec<NeededTable, MAX_TABLES>,
     direction: Direction,

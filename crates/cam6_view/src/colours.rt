@@ -13,8 +13,9 @@ use cam6_planes::{COLUMNS, CellRow, Row};
 /// Colours of a row of the largest side.
 pub const COLOURS: usize = COLUMNS;
 
-/// Writes the colour of each cell of row `y` to `colours`, from column 0 on, and returns how many.
-/// What is past these stays as it was. `map` has the colour of each state.
+/// Writes the colour of each cell of row `y` to `colours`, from column 0 on. Returns how many there
+/// are, which is the side. Later places of `colours` stay as they were. `map` has the colour of
+/// each state.
 pub fn colour_row(rest: &AtRest, map: &[u8; 16], y: usize, colours: &mut [u8; COLOURS]) -> usize
     requires row { y < width rest.now.planes }
     ensures count { result ≡ width rest.now.planes }
@@ -31,7 +32,7 @@ pub fn colour_row(rest: &AtRest, map: &[u8; 16], y: usize, colours: &mut [u8; CO
     side
 }
 
-/// The state of the cell at column `x`.
+/// Returns the state of the cell at column `x` of a row, from 0 to 15. Bit k is that of plane k.
 fn state_in_row(rows: &CellRow, x: usize) -> usize
     requires { x < 64 * WORDS }
     ensures value { result ≡ state_in_row rows.now x }
@@ -43,7 +44,7 @@ fn state_in_row(rows: &CellRow, x: usize) -> usize
         + 8 * bit_in_row(&rows[3], x)
 }
 
-/// The bit at column `x`, as a number.
+/// Returns the bit of a plane's row at column `x`, as 0 or 1.
 fn bit_in_row(row: &Row, x: usize) -> usize
     requires { x < 64 * WORDS }
     ensures value { result ≡ bit_number (column_bit row.now x) }

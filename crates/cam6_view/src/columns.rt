@@ -7,8 +7,8 @@ ghost use Rattle.cam6_view.specs.Internal.{AreSpread, lower_state, state_in_word
 
 use cam6_planes::{CellRow, WORDS, chosen_word, word_of};
 
-/// For each state a word that has every column if the state is in the set that the mask names, and
-/// none if it isn't.
+/// Returns for each state a word of 64 columns. All bits are 1 if the mask has the state's bit, and
+/// 0 if it hasn't.
 pub(crate) fn spread(mask: u16) -> [u64; 16]
     ensures { AreSpread mask result }
 {
@@ -19,7 +19,7 @@ pub(crate) fn spread(mask: u16) -> [u64; 16]
     sets
 }
 
-/// Every column if the state is in the set that the mask names, and none if it isn't.
+/// Returns a word whose 64 bits are all the mask's bit of this state.
 fn spread_bit(mask: u16, state: u16) -> u64
     requires { state < 16 }
     ensures { (c : ℕ) → c < 64 → word_column result c ≡ is_in mask state }
@@ -27,7 +27,7 @@ fn spread_bit(mask: u16, state: u16) -> u64
     word_of(mask >> state & 1 == 1)
 }
 
-/// The columns `64 * k` to `64 * k + 63` of each plane.
+/// Returns a row's columns `64 * k` to `64 * k + 63`, as one word for each plane.
 pub(crate) fn words_of(rows: &CellRow, k: usize) -> [u64; 4]
     requires { k < WORDS }
     ensures { (c : ℕ) → c < 64 → state_in_words result c ≡ state_in_row rows.now (64 * k + c) }
@@ -35,7 +35,8 @@ pub(crate) fn words_of(rows: &CellRow, k: usize) -> [u64; 4]
     [rows[0][k], rows[1][k], rows[2][k], rows[3][k]]
 }
 
-/// At each column the bit that the word of the column's state has there.
+/// Returns a word that has at each of 64 columns the bit of `sets[state]` there, for the state of
+/// the column's cell. `words` has the columns of each plane.
 pub(crate) fn by_state(words: &[u64; 4], sets: &[u64; 16]) -> u64
     ensures { (c : ℕ) → c < 64 → word_column result c
         ≡ word_column (slice_index sets.now (state_in_words words.now c)) c }
@@ -49,7 +50,8 @@ pub(crate) fn by_state(words: &[u64; 4], sets: &[u64; 16]) -> u64
     chosen_word(words[3], below_8, from_8)
 }
 
-/// As `by_state`, among the four states from `first` on. Planes 0 and 1 choose one of them.
+/// Returns a word that has at each of 64 columns the bit of `sets[first + n]` there. `n`, from 0 to
+/// 3, is the column's bit of plane 0 plus twice that of plane 1.
 fn by_lower(words: &[u64; 4], sets: &[u64; 16], first: usize) -> u64
     requires { first + 4 ≤ 16 }
     ensures { (c : ℕ) → c < 64 → word_column result c

@@ -10,7 +10,7 @@ use crate::columns::{by_state, spread, words_of};
 use cam6_band::AtRest;
 use cam6_planes::{CellRow, WORDS};
 
-/// Returns how many cells have a state of the set that the mask names.
+/// Returns how many cells of the image have a state whose bit is set in the mask.
 pub fn count(rest: &AtRest, mask: u16) -> u32
     ensures { result ≡ count_of (width rest.now.planes) (cells rest.now.planes) mask }
 {
@@ -24,7 +24,8 @@ pub fn count(rest: &AtRest, mask: u16) -> u32
     total
 }
 
-/// How many cells of the first `words` words of a row have a state of the set.
+/// Returns how many cells of the first `words` words of a row have a state of the sets. `sets` is
+/// the mask's, as `spread` makes it.
 fn count_in_row(rows: &CellRow, sets: &[u64; 16], words: usize) -> u32
     requires { words ≤ WORDS }
     ensures value { (mask : ℕ) → AreSpread mask sets.now →
@@ -38,7 +39,8 @@ fn count_in_row(rows: &CellRow, sets: &[u64; 16], words: usize) -> u32
     total
 }
 
-/// How many of 64 columns have a state of the set.
+/// Returns how many of 64 columns have a state of the sets. `words` has the columns of each plane,
+/// and `sets` is the mask's, as `spread` makes it.
 fn count_in_word(words: &[u64; 4], sets: &[u64; 16]) -> u32
     ensures value { (mask : ℕ) → AreSpread mask sets.now →
         result ≡ count_below (λ c. is_in mask (state_in_words words.now c)) 64 }
