@@ -7,8 +7,8 @@
 //! (`specs/Partway.antt`) to their step by the tables at hand (`specs/ByTables.antt`). The last band
 //! returns `Next::Whole`, with the planes after the step. The scratch may hold anything before a band
 //! and after it. `MidStep::band` has scratch of its own, and promises the same. `move_into` moves a
-//! step, with all that is saved of it, to another image. `abandon` gives it up. `go_by` takes tables
-//! that lie as a cycle needs them. It returns those that a step from a position uses, and the position
+//! step, with all that is saved of it, to another image. `abandon` gives it up. `tables_of_step`
+//! takes tables that lie as a cycle needs them. It returns those that a step from a position uses, and the position
 //! after it (`specs/AtPosition.antt`). The law: each half uses the table that the cycle needs for this
 //! use of its rule. No function allocates.
 //!
@@ -36,6 +36,6 @@ mod tables;
 
 pub use bands::{BAND, MidStep, Next};
 pub use images::{AtRest, Spare};
-pub use positions::go_by;
+pub use positions::tables_of_step;
 pub use scratch::Scratch;
 pub use tables::{EntryTables, HalfTable};

@@ -109,7 +109,7 @@ fn step_half(
     ensures limit { image.new.limit ≡ image.old.limit }
 {
     match *table {
-        Some(by) => step_by_table(image, last, first, y, setting, &by, scratch),
+        Some(by) => step_half_by_table(image, last, first, y, setting, &by, scratch),
         None => *last = *image.row(y + HEIGHT - 1),
     }
 }
@@ -117,7 +117,7 @@ fn step_half(
 /// Writes a half's sixteen new rows from row `y` on over the old ones, by its table. Copies the
 /// last of the old rows to `last`.
 #[inline(never)]
-fn step_by_table(
+fn step_half_by_table(
     image: &mut Planes,
     last: &mut CellRow,
     first: &CellRow,

@@ -12,7 +12,7 @@ use cam6_entries::Table;
 
 /// Returns the tables that a step in this direction from a position uses, and the position after
 /// the step. `tables` has those that the cycle needs, one for each use of a rule, in their order.
-pub fn go_by<'a>(
+pub fn tables_of_step<'a>(
     cycle: &Cycle,
     position: usize,
     direction: Direction,

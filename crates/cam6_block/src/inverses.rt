@@ -10,7 +10,7 @@ ghost use Rattle.cam6_block.specs.Inverted.{IsInverted};
 ghost use Rattle.cam6_block.specs.Refusals.{IsRefused};
 
 use crate::corners::{CORNERS, STATES, corner_address, corner_bits};
-use crate::refusals::{NotReversible, Pair, meeting};
+use crate::refusals::{NotReversible, Pair, find_meeting};
 use crate::successors::successor;
 use cam6_table::Table;
 use cam6_wiring::{Hood, Minor, Phase};
@@ -36,7 +36,7 @@ pub fn invert(table: &Table, hood: Hood, minor: Minor, out: &mut Table) -> Resul
         return Err(NotReversible::Centres);
     }
     for phase in PHASES {
-        if let Some(Pair { a, b }) = meeting(table, hood, minor, phase) {
+        if let Some(Pair { a, b }) = find_meeting(table, hood, minor, phase) {
             return Err(NotReversible::Meeting { phase, a, b });
         }
     }

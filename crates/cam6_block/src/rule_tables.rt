@@ -23,7 +23,7 @@ pub fn fill_by(
     code: &Code,
     wiring: Wiring,
     direction: Direction,
-    straight: &mut Table,
+    forward: &mut Table,
     out: &mut Table,
 ) -> Result<(), NotReversible>
     // The code stops at no address.
@@ -44,19 +44,19 @@ pub fn fill_by(
 {
     match direction {
         Direction::Forward => {
-            fill_straight(code, out);
+            fill_forward(code, out);
             out.quicken(wiring.hood, wiring.minor);
             Ok(())
         }
         Direction::Backward => {
-            fill_straight(code, straight);
-            invert(straight, wiring.hood, wiring.minor, out)
+            fill_forward(code, forward);
+            invert(forward, wiring.hood, wiring.minor, out)
         }
     }
 }
 
 /// Fills the table from code that stops at no address.
-fn fill_straight(code: &Code, table: &mut Table)
+fn fill_forward(code: &Code, table: &mut Table)
     requires runs { (address : ℕ) → address < addresses → IsOk (result_at code.now address) }
     ensures entries { AreEntries (result_at code.now) table.new }
     ensures whole { length table.new ≡ addresses }

@@ -6,7 +6,7 @@ ghost use Rattle.cam6_board.specs.Bands.{end_of};
 use crate::boards::BandEnd;
 use crate::images::Image;
 use crate::worked::Worked;
-use cam6_band::{Scratch, go_by};
+use cam6_band::{Scratch, tables_of_step};
 use cam6_cycle::{Cycle, Direction};
 use cam6_entries::Table;
 use std::marker::Model;
@@ -102,7 +102,7 @@ impl Job {
         requires room { max_tables ≤ length tables.now }
         ensures { Moves tables.now self.old result self.new }
     {
-        let (by, after) = go_by(&self.cycle, self.position, self.direction, tables);
+        let (by, after) = tables_of_step(&self.cycle, self.position, self.direction, tables);
         self.image.band(&by, scratch);
         if !self.image.image().is_rest() {
             return BandEnd::Inside;

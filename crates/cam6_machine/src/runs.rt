@@ -11,7 +11,7 @@ ghost use Rattle.cam6_model.specs.Moves.{moved, CanMove};
 ghost use Rattle.cam6_model.specs.Always.{HaveOwnNames};
 
 use crate::steps::step;
-use cam6_band::{AtRest, Scratch, go_by};
+use cam6_band::{AtRest, Scratch, tables_of_step};
 use cam6_cycle::{Cycle, Direction};
 use cam6_entries::Table;
 
@@ -40,7 +40,7 @@ pub(crate) fn go_along(
     let mut image = image;
     let mut position = position;
     for _step in 0..n {
-        let (by, after) = go_by(cycle, position, direction, tables);
+        let (by, after) = tables_of_step(cycle, position, direction, tables);
         image = step(image, &by, scratch);
         position = after;
     }

@@ -37,22 +37,26 @@ pub(crate) fn words_of(rows: &CellRow, k: usize) -> [u64; 4]
 
 /// Returns a word that has at each of 64 columns the bit of `sets[state]` there, for the state of
 /// the column's cell. `words` has the columns of each plane.
-pub(crate) fn by_state(words: &[u64; 4], sets: &[u64; 16]) -> u64
+pub(crate) fn select_by_state(words: &[u64; 4], sets: &[u64; 16]) -> u64
     ensures { (c : ℕ) → c < 64 → word_column result c
         ≡ word_column (slice_index sets.now (state_in_words words.now c)) c }
 {
-    let below_8 = chosen_word(words[2], by_lower(words, sets, 0), by_lower(words, sets, 4));
+    let below_8 = chosen_word(
+        words[2],
+        select_by_lower_planes(words, sets, 0),
+        select_by_lower_planes(words, sets, 4),
+    );
     let from_8 = chosen_word(
         words[2],
-        by_lower(words, sets, 8),
-        by_lower(words, sets, 12),
+        select_by_lower_planes(words, sets, 8),
+        select_by_lower_planes(words, sets, 12),
     );
     chosen_word(words[3], below_8, from_8)
 }
 
 /// Returns a word that has at each of 64 columns the bit of `sets[first + n]` there. `n`, from 0 to
 /// 3, is the column's bit of plane 0 plus twice that of plane 1.
-fn by_lower(words: &[u64; 4], sets: &[u64; 16], first: usize) -> u64
+fn select_by_lower_planes(words: &[u64; 4], sets: &[u64; 16], first: usize) -> u64
     requires { first + 4 ≤ 16 }
     ensures { (c : ℕ) → c < 64 → word_column result c
         ≡ word_column (slice_index sets.now (first + lower_state words.now c)) c }

@@ -6,7 +6,7 @@ ghost use Rattle.cam6_planes.specs.declared.row.TheConstants.{WORDS};
 ghost use Rattle.cam6_view.specs.States.{is_in, count_below, count_of};
 ghost use Rattle.cam6_view.specs.Internal.{AreSpread, state_in_row, state_in_words};
 
-use crate::columns::{by_state, spread, words_of};
+use crate::columns::{select_by_state, spread, words_of};
 use cam6_band::AtRest;
 use cam6_planes::{CellRow, WORDS};
 
@@ -46,5 +46,5 @@ fn count_in_word(words: &[u64; 4], sets: &[u64; 16]) -> u32
         result ≡ count_below (λ c. is_in mask (state_in_words words.now c)) 64 }
     ensures bound { result ≤ 64 }
 {
-    by_state(words, sets).count_ones()
+    select_by_state(words, sets).count_ones()
 }

@@ -21,7 +21,7 @@ loop-step-preserved c =
     let new = c.step-image.result.planes in
     let one : suc now._step ≡ now._step + 1 = omega arith in
     record {
-      position = c.go_by-after.ensures.within;
+      position = c.tables_of_step-after.ensures.within;
       alike = record {
         side = c.step-image.ensures.alike.side ∙ now.invariant.alike.side;
         limit = c.step-image.ensures.alike.limit ∙ now.invariant.alike.limit;
@@ -29,10 +29,10 @@ loop-step-preserved c =
       steps = λ limit rules colours own numbered are can.
           let m = stored_as c.args.image.planes limit rules cycle c.args.position colours in
           ap (λ position. stored_as new limit rules cycle position colours)
-          c.go_by-after.ensures.next ∙
+          c.tables_of_step-after.ensures.next ∙
           one_step direction limit rules cycle colours own old new c.step-image.ensures.alike now.position
-          c.args.tables.now (values_of c.go_by-after.result.0) c.args.image.planes c.args.position
-          numbered are can c.go_by-after.ensures.tables c.step-image.ensures.planes ∙
+          c.args.tables.now (values_of c.tables_of_step-after.result.0) c.args.image.planes c.args.position
+          numbered are can c.tables_of_step-after.ensures.tables c.step-image.ensures.planes ∙
           ap (one_moved direction) (now.invariant.steps limit rules colours own numbered are can) ∙
           one_more direction now._step m ∙ ap (λ n. moved direction n m) one;
     }

@@ -9,8 +9,8 @@ use Rattle.cam6_view.proofs.counts.count_in_word.Goals as goal
 pub returns-clause-value : goal.returns-clause-value
 returns-clause-value c mask spread =
     let words = c.args.words.now in
-    ones_in_columns c.by_state.result c.by_state.type_inv ∙
-    count_below-same (word_column c.by_state.result) (λ k. is_in mask (state_in_words words k)) 64
+    ones_in_columns c.select_by_state.result c.select_by_state.type_inv ∙
+    count_below-same (word_column c.select_by_state.result) (λ k. is_in mask (state_in_words words k)) 64
     (λ k h.
     let within = state_by-lt (λ p. word_column (get_or words p 0) k) in
-    c.by_state.ensures k h ∙ spread (state_in_words words k) k within h)
+    c.select_by_state.ensures k h ∙ spread (state_in_words words k) k within h)

@@ -6,7 +6,7 @@ use Rattle.cam6_wiring.specs.Name.{plane_of}
 use Rattle.cam6_band.specs.Internal.HalfRows.{rows_of}
 use Rattle.cam6_band.proofs.HalfPlanes.{plane-lt}
 use Rattle.cam6_band.proofs.NewBits.{are_new}
-use Rattle.cam6_band.proofs.new_rows.step_by_table.Goals as goal
+use Rattle.cam6_band.proofs.new_rows.step_half_by_table.Goals as goal
 
 pub returns-clause-new : goal.returns-clause-new
 returns-clause-new c = λ f old level x r h k.

@@ -1,7 +1,7 @@
 use Rattle.std.proofs.Common.{◌∙◌, refl, arith}
 use Rattle.cam6_block.specs.BlockMaps.{by_table, block_map}
 use Rattle.cam6_block.proofs.Search.{none_kept, is_meeting, one_more}
-use Rattle.cam6_block.proofs.refusals.meeting.Goals as goal
+use Rattle.cam6_block.proofs.refusals.find_meeting.Goals as goal
 
 pub loop-state-init : goal.loop-state-init
 loop-state-init c = none_kept _ _ refl refl
