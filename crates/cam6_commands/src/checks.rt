@@ -32,7 +32,7 @@ impl Model for PlaneNumber {
 }
 
 impl PlaneNumber {
-    /// The plane with this number, 0 to 3. Returns `OutOfRange` if there is none.
+    /// Returns the plane with this number, 0 to 3. Returns `OutOfRange` if there is no such plane.
     pub fn of(number: u64) -> Result<PlaneNumber, Fault>
         ensures refusal { result_err result ≡ plane_refusal number }
         ensures value { IfOk result (λ plane. plane ≡ number) }
@@ -45,7 +45,7 @@ impl PlaneNumber {
         })
     }
 
-    /// The plane's number, 0 to 3.
+    /// Returns the plane's number, 0 to 3.
     pub fn number(self) -> usize
         ensures value { result ≡ self }
         ensures within { result < 4 }
@@ -76,7 +76,8 @@ impl Model for RowNumber {
 }
 
 impl RowNumber {
-    /// The row with this number of a torus of this side. Returns `OutOfRange` if there is none.
+    /// Returns the row with this number in a torus of this side. Returns `OutOfRange` if there is
+    /// no such row.
     pub fn of(side: Side, number: u64) -> Result<RowNumber, Fault>
         ensures refusal { result_err result ≡ row_refusal side number }
         ensures value { IfOk result (λ row. row ≡ record { side = side; number = number }) }
@@ -90,7 +91,7 @@ impl RowNumber {
         })
     }
 
-    /// The row's number, 0 to below the side.
+    /// Returns the row's number, from 0 to below the side.
     pub fn number(self) -> usize
         ensures value { result ≡ self.number }
         ensures within { result < side_number self.side }
@@ -116,7 +117,8 @@ impl Model for Mask {
 }
 
 impl Mask {
-    /// The states of a mask from 0 to 65,535. Returns `OutOfRange` if the number is larger.
+    /// Returns the set of states with this mask, from 0 to 65,535. Returns `OutOfRange` if the
+    /// number is larger.
     pub fn of(number: u64) -> Result<Mask, Fault>
         ensures refusal { result_err result ≡ mask_refusal number }
         ensures value { IfOk result (λ mask. mask ≡ number) }
@@ -129,7 +131,7 @@ impl Mask {
         })
     }
 
-    /// A bit for each state, bit 0 for the state 0.
+    /// Returns the mask: a bit for each state, bit 0 for the state 0.
     pub fn bits(self) -> u16
         ensures { result ≡ self }
     {
@@ -154,7 +156,7 @@ impl Model for StepCount {
 }
 
 impl StepCount {
-    /// So many steps, from 0 to 65,535. Returns `OutOfRange` if there are more.
+    /// Returns a number of steps from 0 to 65,535. Returns `OutOfRange` if it is larger.
     pub fn of(number: u64) -> Result<StepCount, Fault>
         ensures refusal { result_err result ≡ steps_refusal number }
         ensures value { IfOk result (λ steps. steps ≡ number) }
@@ -167,7 +169,7 @@ impl StepCount {
         })
     }
 
-    /// The number of steps, 0 to 65,535.
+    /// Returns the number of steps, 0 to 65,535.
     pub fn number(self) -> u16
         ensures { result ≡ self }
     {

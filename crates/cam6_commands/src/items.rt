@@ -18,6 +18,7 @@ impl<T> Model for Items<T> {
 impl<T> Items<T> {
     ghost use Rattle.std.specs.Prelude.{◌≡◌};
 
+    /// Returns a list that has these items in their order.
     pub fn new(items: Vec<T>) -> Items<T>
         ensures { result ≡ items.items }
     {

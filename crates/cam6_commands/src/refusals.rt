@@ -30,7 +30,7 @@ pub enum Refusal {
 }
 
 impl Refusal {
-    /// The fault's number in replies.
+    /// Returns the number of the fault, as replies have it.
     pub fn number(self) -> u8
         ensures { result ≡ refusal_number self }
     {

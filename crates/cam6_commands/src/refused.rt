@@ -19,7 +19,7 @@ pub enum Refused {
 }
 
 impl Refused {
-    /// The number of the reason, 101 to 109.
+    /// Returns the number of the reason, 101 to 109, as replies have it.
     pub fn number(self) -> u8
         ensures { result ≡ refused_number self }
     {

@@ -32,7 +32,7 @@ impl Model for RowText {
 }
 
 impl RowText {
-    /// The text of row `y` of plane `p`.
+    /// Returns the text of row `y` of plane `p`: a hexadecimal digit for each four columns.
     pub fn of(planes: &Planes, p: usize, y: usize) -> RowText
         requires plane { p < 4 }
         requires row { y < width planes.now }
@@ -43,7 +43,7 @@ impl RowText {
         RowText { digits, text }
     }
 
-    /// The digits in ASCII, from column 0 on.
+    /// Lends the hexadecimal digits in ASCII. Those of the lowest columns come first.
     pub fn as_slice(&self) -> &[u8]
         ensures digits { result.now ≡ self.now }
         ensures ascii { IsAscii result.now }
@@ -78,7 +78,7 @@ impl RowColours {
     ghost use Rattle.std.specs.Prelude.{◌≡◌, length};
     ghost use Rattle.cam6_planes.specs.declared.row.TheConstants.{COLUMNS};
 
-    /// The first so many of these colours.
+    /// Returns a row of the first `count` of these colours.
     pub fn new(count: usize, colours: [u8; COLUMNS]) -> RowColours
         requires count { count ≤ COLUMNS }
         requires colours { AllByRecursion (λ colour. colour ≤ max_colour) (take count colours) }
@@ -87,7 +87,7 @@ impl RowColours {
         RowColours { count, colours }
     }
 
-    /// The colours, 0 to 15, from column 0 on.
+    /// Lends the colours of the row, 0 to 15, from column 0 on.
     pub fn as_slice(&self) -> &[u8]
         ensures value { result.now ≡ self.now }
         ensures few { length result.now ≤ COLUMNS }

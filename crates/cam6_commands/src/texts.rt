@@ -26,14 +26,14 @@ impl Text {
     ghost use Rattle.std.specs.Str.{IsUtf8};
     ghost use Rattle.cam6_commands.specs.Names.{is_rule_name};
 
-    /// Any text. `is_rule_name` returns whether it can be a rule's name.
+    /// Returns a text of any string. It may or may not be a rule's name: see `is_rule_name`.
     pub fn new(text: String) -> Text
         ensures { result ≡ string_bytes text }
     {
         Text { text }
     }
 
-    /// Lends the text as it was given.
+    /// Lends the string unchanged.
     pub fn as_str(&self) -> &str
         ensures text { result.now ≡ self.now }
         ensures utf8 { IsUtf8 self.now }
@@ -41,15 +41,15 @@ impl Text {
         self.text.as_str()
     }
 
-    /// Gives the string back without a copy.
+    /// Gives up the text, and returns its string without a copy.
     pub fn into_string(self) -> String
         ensures { string_bytes result ≡ self }
     {
         self.text
     }
 
-    /// Whether it can be a rule's name: 1 to 24 bytes from `!` to `~`, without `"` and `\`, and not
-    /// `-`. A space can't be in it.
+    /// Whether the text can be a rule's name: 1 to 24 bytes from `!` to `~`, without `"` and `\`,
+    /// and not `-`. A space can't be in it.
     pub fn is_rule_name(&self) -> bool
         ensures { result ≡ is_rule_name self.now }
     {

@@ -40,7 +40,7 @@ impl CompiledRule {
     ghost use Rattle.cam6_block.specs.RuleTables.{IsTableBy};
     ghost use Rattle.cam6_cycle.specs.declared.tables.Direction.TheVariants.{Backward};
 
-    /// The rule of a text. `code` must be the code of that text.
+    /// Makes the rule of a text. `code` must be the code of that text.
     pub(crate) fn new(wiring: Wiring, text: Text, code: Code) -> CompiledRule
         requires { IsCodeFor wiring text code }
         ensures { result ≡ record { wiring = wiring; text = text; code = code } }
@@ -48,21 +48,21 @@ impl CompiledRule {
         CompiledRule { wiring, text, code }
     }
 
-    /// What the rule is written for.
+    /// Returns what the rule is written for: its half, hood and minor assignment.
     pub fn wiring(&self) -> Wiring
         ensures { result ≡ self.now.wiring }
     {
         self.wiring
     }
 
-    /// The text by which the rule was defined.
+    /// Lends the text by which the rule was defined.
     pub fn text(&self) -> &Text
         ensures { result.now ≡ self.now.text }
     {
         &self.text
     }
 
-    /// The code of the text.
+    /// Lends the code of the text.
     pub fn code(&self) -> &Code
         ensures code { result.now ≡ self.now.code }
         ensures meaning { IsCodeFor self.now.wiring self.now.text result.now }
@@ -70,9 +70,9 @@ impl CompiledRule {
         &self.code
     }
 
-    /// Fills `table` for a way along a cycle: forward by the rule's words. Backward it first fills
-    /// `straight`, which may hold anything, and inverts that. If the rule can't be undone, returns
-    /// why.
+    /// Fills `table` for steps in a direction. Forward, it becomes the table of the rule. Backward,
+    /// `forward` becomes that table, whatever it held before, and `table` its inverse. If the rule
+    /// can't be undone, returns why.
     pub(crate) fn fill_by(
         &self,
         direction: Direction,
@@ -89,8 +89,8 @@ impl CompiledRule {
     }
 }
 
-/// Reads a rule's text and tries the rule at every address, in the tables' scratch. Returns the
-/// rule, or why there is none.
+/// Compiles a rule's text, and tries it at every address. Returns the rule, or why the text is
+/// none. `scratch` lends memory for the trial, and stays as it was.
 pub(crate) fn tried_rule(
     alloc: Global,
     wiring: Wiring,

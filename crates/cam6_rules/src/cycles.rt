@@ -14,7 +14,7 @@ use cam6_cycle::{Cycle, Entry, HalfRule, MAX_ENTRIES};
 use cam6_wiring::Phase;
 use indexmap::IndexMap;
 
-/// The entries of a cycle. The list is empty if no cycle is set.
+/// Returns the entries of a cycle, or none if no cycle is set.
 pub fn entries_of(cycle: &Option<Cycle>) -> &[Entry]
     ensures entries { result.now ≡ entries_of cycle.now }
     ensures few { length result.now ≤ max_entries }
@@ -25,7 +25,8 @@ pub fn entries_of(cycle: &Option<Cycle>) -> &[Entry]
     }
 }
 
-/// The cycle of these entries, each with the numbers of its rules.
+/// Returns the cycle of these entries, in which rules stand by their numbers instead of their
+/// names.
 pub(crate) fn numbered_cycle(
     rules: &IndexMap<String, CompiledRule>,
     entries: &[NamedEntry],
@@ -44,8 +45,8 @@ pub(crate) fn numbered_cycle(
     }
 }
 
-/// The cycle after the rule at a number is dropped. Each later rule's number is one less. Returns
-/// `None` if there are no entries.
+/// Returns the cycle after the rule at a number is dropped: each later rule has a number less by
+/// one. Returns `None` if there are no entries.
 pub(crate) fn closed_cycle(cycle: &[Entry], number: usize) -> Option<Cycle>
     requires { length cycle.now ≤ max_entries }
     ensures { entries_of result ≡ map (closed_entry number) cycle.now }
@@ -57,7 +58,8 @@ pub(crate) fn closed_cycle(cycle: &[Entry], number: usize) -> Option<Cycle>
     Cycle::new(closed.as_slice()).ok()
 }
 
-/// An entry once the rule at a number is dropped.
+/// Returns an entry after the rule at a number is dropped: each later rule has a number less by
+/// one.
 fn closed_entry(entry: Entry, number: usize) -> Entry
     ensures { result ≡ closed_entry number entry }
 {
@@ -69,7 +71,8 @@ fn closed_entry(entry: Entry, number: usize) -> Entry
     }
 }
 
-/// A half's rule once the rule at a number is dropped. The number of a later rule is one less.
+/// Returns a half's rule after the rule at a number is dropped: a later rule has a number less by
+/// one.
 fn closed_half(rule: Option<HalfRule>, number: usize) -> Option<HalfRule>
     ensures { result ≡ closed_half number rule }
 {
@@ -86,8 +89,8 @@ fn closed_half(rule: Option<HalfRule>, number: usize) -> Option<HalfRule>
     })
 }
 
-/// An entry with the numbers of the rules that it names. A half has no rule if no rule has its
-/// name.
+/// Returns an entry with the numbers of the rules that it names. A half has no rule if no rule has
+/// its name.
 fn numbered_entry(rules: &IndexMap<String, CompiledRule>, entry: &NamedEntry) -> Entry
     ensures { result ≡ numbered_entry (rules_of rules.now.entries) entry.now }
 {
@@ -99,7 +102,8 @@ fn numbered_entry(rules: &IndexMap<String, CompiledRule>, entry: &NamedEntry) ->
     }
 }
 
-/// The rule at a number with what it is written for, if there is a number and a rule at it.
+/// Returns the rule at a number with its hood and minor assignment. Returns `None` without a
+/// number, or if no rule is at it.
 fn half_rule_at(rules: &IndexMap<String, CompiledRule>, number: Option<usize>) -> Option<HalfRule>
     ensures { result ≡ half_rule_at (rules_of rules.now.entries) number }
 {
@@ -111,7 +115,8 @@ fn half_rule_at(rules: &IndexMap<String, CompiledRule>, number: Option<usize>) -
     })
 }
 
-/// The number of the rule with this name, if there is a name and such a rule.
+/// Returns the number of the rule with this name. Returns `None` without a name, or if no rule has
+/// it.
 fn number_if_named(rules: &IndexMap<String, CompiledRule>, name: &Option<Text>) -> Option<usize>
     ensures { result ≡ number_if_named (rules_of rules.now.entries) name.now }
 {
@@ -121,7 +126,7 @@ fn number_if_named(rules: &IndexMap<String, CompiledRule>, name: &Option<Text>) 
     }
 }
 
-/// The phase of a number from 0 to 3. A larger number gives phase 3.
+/// Returns the phase of a number from 0 to 3. A larger number gives phase 3.
 fn phase_of(number: u64) -> Phase
     ensures { result ≡ phase_of number }
 {

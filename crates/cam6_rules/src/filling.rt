@@ -21,9 +21,9 @@ use cam6_cycle::{Cycle, Direction, Entry, HalfRule, NeededTable};
 use cam6_table::Table;
 use cam6_wiring::Half;
 
-/// Fills the tables that a cycle needs to go one way along it. If rules have no table, returns why
-/// the first of them has none, by the order of the entries, and half A's before half B's.
-/// `straight` is scratch for a table to invert, and may hold anything.
+/// Fills the tables that a cycle needs for steps in a direction. If rules can't be undone, returns
+/// why the first of them can't. The first is by the order of the entries, and half A's is before
+/// half B's. `forward` is scratch for a table to invert, and may hold anything.
 pub(crate) fn fill_entries(
     rules: &Rules,
     cycle: &Cycle,
@@ -54,14 +54,16 @@ pub(crate) fn fill_entries(
     Ok(())
 }
 
-/// The refusal of a cycle whose rule for this half can't be undone. Entries are counted from 0.
+/// Returns the refusal of a cycle whose rule for this half of this entry can't be undone, with the
+/// cause. Entries are counted from 0.
 fn not_reversible(entry: usize, half: Half, cause: NotReversible) -> Refusal
     ensures { result ≡ Refusal.NotReversible entry half cause }
 {
     Refusal::NotReversible { entry, half, cause }
 }
 
-/// Fills the table at this index for a half's rule. If the half has no rule, does nothing.
+/// Fills the table at `index` in `tables` for a half's rule. If the half has no rule, does nothing.
+/// If the rule can't be undone, returns why.
 fn fill_half(
     rules: &Rules,
     needed: &[NeededTable],
@@ -88,7 +90,8 @@ fn fill_half(
     }
 }
 
-/// Fills the table of the use at this index. If the rule was used before, copies its table.
+/// Fills the table at `index` in `tables` for the rule that `needed` has there. If an earlier table
+/// is of the same rule, copies that one. If the rule can't be undone, returns why.
 fn fill_use(
     rules: &Rules,
     needed: &[NeededTable],
@@ -117,7 +120,8 @@ fn fill_use(
     }
 }
 
-/// The index of the first use of the rule at a number, or `None` if these tables have no use of it.
+/// Returns the index of the first of these tables that is of the rule at a number, or `None` if
+/// none of them is.
 fn first_use(needed: &[NeededTable], number: usize) -> Option<usize>
     ensures { IfSome result (λ first. IsUse number (slice_get needed.now first)) }
 {

@@ -11,14 +11,15 @@ use cam6_wiring::Wiring;
 use indexmap::IndexMap;
 use std::alloc::Global;
 
-/// The number of the rule that has the name, or `None` if there is none.
+/// Returns the number of the rule that has the name, or `None` if no rule has it.
 pub(crate) fn rule_number(rules: &IndexMap<String, CompiledRule>, name: &Text) -> Option<usize>
     ensures { result ≡ rule_number name.now (rules_of rules.now.entries) }
 {
     rules.get_index_of(name.as_str())
 }
 
-/// What the rule that has the name is written for, or `None` if there is no such rule.
+/// Returns what the rule that has the name is written for: half, hood and minor assignment. Returns
+/// `None` if no rule has the name.
 pub(crate) fn wiring_of(rules: &IndexMap<String, CompiledRule>, name: &Text) -> Option<Wiring>
     ensures { result ≡ wiring_of name.now (rules_of rules.now.entries) }
 {
@@ -28,7 +29,8 @@ pub(crate) fn wiring_of(rules: &IndexMap<String, CompiledRule>, name: &Text) -> 
     }
 }
 
-/// What the rule at a number is written for, if there is a number and a rule at it.
+/// Returns what the rule at a number is written for: half, hood and minor assignment. Returns
+/// `None` without a number, or if no rule is at it.
 pub(crate) fn wiring_at(
     rules: &IndexMap<String, CompiledRule>,
     number: Option<usize>,
@@ -39,14 +41,15 @@ pub(crate) fn wiring_at(
     Some(rule.wiring())
 }
 
-/// Drops the rule that has the name. Those after it close up.
+/// Drops the rule that has the name, if there is one. The number of each later rule becomes less by
+/// one.
 pub(crate) fn remove(rules: &mut IndexMap<String, CompiledRule>, name: &Text)
     ensures { rules_of rules.new.entries ≡ without_rule name.now (rules_of rules.old.entries) }
 {
     rules.shift_remove(name.as_str());
 }
 
-/// The names of the rules, in their order.
+/// Returns copies of the rules' names, in the order of the rules.
 pub(crate) fn names_of(
     alloc: Global,
     rules: &IndexMap<String, CompiledRule>,
@@ -66,8 +69,8 @@ pub(crate) fn names_of(
     Ok(names)
 }
 
-/// Keeps a rule under a name, in the place of the one that has it, or after all others. If an
-/// allocation fails, nothing changes.
+/// Stores a rule under a name, in the place of the rule that has the name, or else after all
+/// others. If an allocation fails, nothing changes.
 pub(crate) fn put(
     rules: &mut IndexMap<String, CompiledRule>,
     name: Text,

@@ -20,7 +20,8 @@ use cam6_cycle::{Entry, HalfRule, MAX_ENTRIES};
 use cam6_wiring::Half;
 use indexmap::IndexMap;
 
-/// Accepts a rule if its name is one, the cycle uses no rule of that name, and a new one has room.
+/// Accepts the definition of a rule under a name. Returns the fault if the name can't be a rule's,
+/// the cycle uses a rule of that name, or there is no room for a new one.
 pub(crate) fn accept_rule(
     rules: &IndexMap<String, CompiledRule>,
     cycle: &[Entry],
@@ -41,8 +42,8 @@ pub(crate) fn accept_rule(
     }
 }
 
-/// Returns the number of the rule that has the name, if it can be dropped: it is there, and the
-/// cycle doesn't use it.
+/// Returns the number of the rule that has the name, if it can be dropped. Returns the fault if no
+/// rule has the name, or if the cycle uses it.
 pub(crate) fn accept_drop(
     rules: &IndexMap<String, CompiledRule>,
     cycle: &[Entry],
@@ -62,21 +63,21 @@ pub(crate) fn accept_drop(
     }
 }
 
-/// Whether an entry of the cycle has the rule at this number.
+/// Whether a half of an entry of the cycle has the rule at this number.
 pub(crate) fn is_used(cycle: &[Entry], number: usize) -> bool
     ensures { result ≡ list_any (uses_number number) cycle.now }
 {
     cycle.iter().any(|entry| uses_number(*entry, number))
 }
 
-/// Whether a half of an entry has the rule at this number.
+/// Whether a half of the entry has the rule at this number.
 fn uses_number(entry: Entry, number: usize) -> bool
     ensures { result ≡ uses_number number entry }
 {
     is_number(number, entry.a) || is_number(number, entry.b)
 }
 
-/// Whether a half's rule stands at this number.
+/// Whether a half has a rule, and it is the one at this number.
 fn is_number(number: usize, rule: Option<HalfRule>) -> bool
     ensures { result ≡ is_number number (number_in rule) }
 {
@@ -86,8 +87,8 @@ fn is_number(number: usize, rule: Option<HalfRule>) -> bool
     }
 }
 
-/// Accepts a cycle if it has 1 to 16 entries, each with a phase, and the rules that they name are
-/// there, and of the halves for which they are named.
+/// Accepts the entries of a cycle. Returns the fault if there isn't 1 to 16 of them, or one has no
+/// phase from 0 to 3. So it does if one names a rule that isn't there, or isn't of this half.
 pub(crate) fn accept_cycle(
     rules: &IndexMap<String, CompiledRule>,
     entries: &NamedEntries,
@@ -119,7 +120,8 @@ fn have_phases(entries: &[NamedEntry]) -> bool
     entries.iter().all(|entry| entry.phase < 4)
 }
 
-/// Accepts all entries, or returns the fault of the first one that is refused.
+/// Accepts the rules that entries name. Returns the fault of the first entry that names a rule that
+/// isn't there, or isn't of the half for which it is named.
 fn accept_entries(
     rules: &IndexMap<String, CompiledRule>,
     entries: &[NamedEntry],
@@ -132,7 +134,8 @@ fn accept_entries(
     Ok(())
 }
 
-/// Accepts an entry if the names of both halves are accepted. Half A's fault comes first.
+/// Accepts the rules that an entry names. Returns the fault of the first half that names a rule
+/// that isn't there, or isn't of this half. Half A comes first.
 fn accept_entry(rules: &IndexMap<String, CompiledRule>, entry: &NamedEntry) -> Result<(), Fault>
     ensures { result_err result ≡ entry_refusal (rules_of rules.now.entries) entry.now }
 {
@@ -140,7 +143,8 @@ fn accept_entry(rules: &IndexMap<String, CompiledRule>, entry: &NamedEntry) -> R
     accept_half(rules, Half::B, &entry.b)
 }
 
-/// Accepts an entry's name for a half if a rule of this half has it. Accepts a half without a name.
+/// Accepts the rule that a half names, or a half without a name. Returns the fault if no rule has
+/// the name, or one of the other half has it.
 fn accept_half(
     rules: &IndexMap<String, CompiledRule>,
     half: Half,

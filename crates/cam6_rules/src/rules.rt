@@ -74,7 +74,7 @@ impl Rules {
     ghost use Rattle.cam6_rules.specs.Filled.{StoredTables, AreTrue};
     ghost use Rattle.cam6_rules.specs.Numbers.{entries_of, named_entries, AreNumbered};
 
-    /// No rules.
+    /// Makes an empty list of rules. Does not allocate.
     pub fn new(alloc: Global) -> Rules
         ensures { result ≡ [] }
     {
@@ -84,8 +84,8 @@ impl Rules {
         }
     }
 
-    /// Defines saved rules one after another, each under a name of its own. Returns `None` if one
-    /// of them can't be defined. Tries their texts in the tables' scratch.
+    /// Defines saved rules one after another, and returns them. Returns `Ok(None)` if one of them
+    /// can't be defined, or has the name of one before. `scratch` lends memory to try their texts.
     pub fn of(
         alloc: Global,
         rules: NamedRules,
@@ -105,7 +105,8 @@ impl Rules {
         Ok(Some(kept))
     }
 
-    /// Defines a rule after the others. Returns false if one has its name or it is refused.
+    /// Defines a rule after the others, and returns true. Returns false, and defines none, if a
+    /// rule has its name or it is refused.
     fn add(&mut self, rule: NamedRule, scratch: &mut Tables) -> Result<bool, NoMemory>
         ensures rules { IfOk result (λ is. IsAdded is self.old self.new rule) }
         ensures scratch { scratch.new ≡ scratch.old }
@@ -121,29 +122,30 @@ impl Rules {
         }
     }
 
-    /// Whether one of them has the name.
+    /// Whether a rule has the name.
     fn has_name(&self, name: &Text) -> bool
         ensures { result ≡ is_some (rule_named name.now self.now) }
     {
         wiring_of(&self.by_name, name).is_some()
     }
 
-    /// Returns how many rules there are. The clause `rules` gives their invariant.
+    /// Returns how many rules there are.
     pub fn len(&self) -> usize
         ensures number { result ≡ length self.now }
+        // The invariant of the rules.
         ensures rules { AreRules self.now }
     {
         self.by_name.len()
     }
 
-    /// Whether there are none.
+    /// Whether there are no rules.
     pub fn is_empty(&self) -> bool
         ensures { IsTrue result ↔ (self.now ≡ []) }
     {
         self.by_name.is_empty()
     }
 
-    /// The rule at a number, counted from 0, or `None` if there is none.
+    /// Lends the rule at a number, counted from 0, or returns `None` if there is no such rule.
     pub fn at(&self, number: usize) -> Option<&CompiledRule>
         ensures { IsKeptAs (slice_get self.now number) (option_copied result) }
     {
@@ -151,7 +153,7 @@ impl Rules {
         Some(rule)
     }
 
-    /// The names of the rules, in their order.
+    /// Returns copies of the rules' names, in the order of the rules.
     pub fn names(&self) -> Result<Vec<Text>, NoMemory>
         ensures names { IfOk result (λ names. names.items ≡ map (λ rule. rule.name) self.now) }
         // Listing no rules needs no memory.
@@ -160,23 +162,25 @@ impl Rules {
         names_of(self.alloc, &self.by_name)
     }
 
-    /// The rules as they are saved, in their order.
+    /// Returns copies of the rules as a saved machine has them, in their order.
     pub fn saved(&self) -> Result<NamedRules, NoMemory>
         ensures { IfOk result (λ saved. saved ≡ self.now) }
     {
         saved_rules(self.alloc, &self.by_name)
     }
 
-    /// The entries of a cycle as they are saved, with the names of their rules.
+    /// Returns the entries of a cycle as a saved machine has them, with the names of their rules
+    /// instead of their numbers.
     pub fn saved_entries(&self, cycle: &[Entry]) -> Result<NamedEntries, NoMemory>
         ensures { IfOk result (λ saved. saved ≡ named_entries self.now cycle.now) }
     {
         saved_entries(self.alloc, &self.by_name, cycle)
     }
 
-    /// Keeps a rule under a name, instead of the one that has it, unless it is refused: a rule that
-    /// the cycle uses stays. Tries its text in the tables' scratch. If it isn't defined, nothing
-    /// changes.
+    /// Compiles a rule's text, and stores the rule under a name, instead of the one that has it. If
+    /// the text has a fault, or the cycle uses a rule of that name, returns the refusal, and
+    /// nothing changes. If an allocation fails, nothing changes either. `scratch` lends memory to
+    /// try the text.
     pub fn define(
         &mut self,
         cycle: &[Entry],
@@ -221,8 +225,9 @@ impl Rules {
         }
     }
 
-    /// Drops the rule that has the name. Each later rule's number is one less, also in the cycle.
-    /// If there is no such rule or the cycle uses it, returns the fault, and nothing changes.
+    /// Drops the rule that has the name. Each later rule's number becomes less by one, also in the
+    /// cycle. If there is no such rule or the cycle uses it, returns the fault, and nothing
+    /// changes.
     pub fn remove(&mut self, cycle: &mut Option<Cycle>, name: &Text) -> Result<(), Fault>
         ensures refusal { result_err result
             ≡ drop_refusal self.old (named_entries self.old (entries_of cycle.old)) name.now }
@@ -246,8 +251,8 @@ impl Rules {
         Ok(())
     }
 
-    /// Returns the cycle of these entries, by the numbers of the rules that they name, or the fault
-    /// for which they are refused.
+    /// Returns the cycle of these entries, with the numbers of the rules that they name. If the
+    /// entries are refused, returns the fault.
     pub fn cycle_of(&self, entries: &NamedEntries) -> Result<Cycle, Fault>
         ensures refusal { result_err result ≡ cycle_refusal self.now entries.now }
         ensures named { IfOk result (λ cycle. named_entries self.now cycle ≡ entries.now) }

@@ -10,7 +10,7 @@ use cam6_planes::NoMemory;
 use indexmap::IndexMap;
 use std::alloc::Global;
 
-/// Copies of the rules as they are saved, in their order.
+/// Returns copies of the rules as a saved machine has them, in their order.
 pub(crate) fn saved_rules(
     alloc: Global,
     rules: &IndexMap<String, CompiledRule>,
@@ -31,7 +31,8 @@ pub(crate) fn saved_rules(
     Ok(NamedRules::new(saved))
 }
 
-/// The entries of a cycle, with the names of their rules.
+/// Returns the entries of a cycle as a saved machine has them, with the names of their rules
+/// instead of their numbers.
 pub(crate) fn saved_entries(
     alloc: Global,
     rules: &IndexMap<String, CompiledRule>,
@@ -47,7 +48,8 @@ pub(crate) fn saved_entries(
     Ok(NamedEntries::new(saved))
 }
 
-/// An entry with the names of its rules. A half without a rule has none.
+/// Returns an entry with the names of its rules instead of their numbers. A half without a rule has
+/// no name.
 fn named_entry(
     alloc: Global,
     rules: &IndexMap<String, CompiledRule>,
@@ -65,7 +67,7 @@ fn named_entry(
     })
 }
 
-/// The name of a half's rule, if it has one.
+/// Returns a copy of the name of a half's rule, or `None` if the half has no rule.
 fn name_at(
     alloc: Global,
     rules: &IndexMap<String, CompiledRule>,

@@ -46,7 +46,7 @@ impl Tables {
     ghost use Rattle.cam6_rules.specs.Numbers.{named_entries};
     ghost use Rattle.cam6_rules.specs.Filled.{AreTrue, AreTablesOf, way_refusal};
 
-    /// Memory for the tables of the longest cycle. None of them is filled.
+    /// Allocates the tables of the longest cycle. None of them is filled.
     pub fn blank(alloc: Global) -> Result<Tables, NoMemory>
         ensures filled { IfOk result (λ tables. tables.filled ≡ None) }
     {
@@ -62,8 +62,8 @@ impl Tables {
         })
     }
 
-    /// All tables, as many as the longest cycle needs, in the order of `tables_needed`. Those that
-    /// aren't filled may hold anything.
+    /// Lends all tables, as many as the longest cycle needs, in the order of `tables_needed`. Those
+    /// that aren't filled may hold anything.
     pub fn by_use(&self) -> &[Table]
         ensures entries { result.now ≡ self.now.entries }
         ensures room { length result.now ≡ max_tables }
@@ -71,7 +71,7 @@ impl Tables {
         self.by_use.as_slice()
     }
 
-    /// Marks the tables as filled for no way along any cycle, for example as another cycle is set.
+    /// Marks all tables as not filled. This is needed if another cycle is set.
     pub fn spoil(&mut self)
         ensures entries { self.new.entries ≡ self.old.entries }
         ensures filled { self.new.filled ≡ None }
@@ -79,9 +79,9 @@ impl Tables {
         self.filled = None;
     }
 
-    /// Fills the tables that a cycle needs to go one way along it, unless they are filled for it.
-    /// If a rule has none, returns which and why, and the tables count as not filled. Does not
-    /// allocate.
+    /// Fills the tables that a cycle needs for steps in a direction, unless they are filled for it
+    /// already. If a rule can't be undone, returns which and why, and marks the tables as not
+    /// filled. Does not allocate.
     pub fn fill(
         &mut self,
         rules: &Rules,
@@ -106,7 +106,8 @@ impl Tables {
         Ok(())
     }
 
-    /// Compiles a rule's text. Tries it at every address, in the tables' scratch.
+    /// Compiles a rule's text, and tries the code at every address. Returns the code, or why the
+    /// text has none. The marks of the tables stay.
     pub(crate) fn compile(
         &mut self,
         alloc: Global,
