@@ -4,7 +4,8 @@ ghost use Rattle.cam6_band.specs.Laws.{GoesByItsUse};
 
 use cam6_cycle::laws::each_use_has_its_table;
 
-/// In either direction, each half uses the table that the cycle needs for this use of its rule.
+/// At each position and in either direction, a half uses the table that the cycle needs for this
+/// use of its rule.
 pub fn each_half_goes_by_its_use()
     ensures law { GoesByItsUse }
 {

@@ -4,37 +4,40 @@ ghost use Rattle.cam6_block.specs.Laws.{TrueTableHasTheBlockMap, TakesEach, Corn
 ghost use Rattle.cam6_block.specs.Laws.{IsTheOnlyOne, InvertedTakesPreimages, InvertedUndoes};
 ghost use Rattle.cam6_block.specs.Laws.{CauseIsFound};
 
-/// The true table of a rule makes of a block what the rule's words make of it.
+/// A block gets the same state by the true table of a rule as by the rule's words.
 pub fn a_true_table_has_the_block_map()
     ensures law { TrueTableHasTheBlockMap }
 {}
 
-/// A one-to-one map of block states takes each state.
+/// A one-to-one map from block states to block states has each block state as a value.
 pub fn one_to_one_takes_each_state()
     ensures law { TakesEach }
 {}
 
-/// Two corners that show one address get the same bits back.
+/// If a table is reversible, two corners that see the same address had the same bits before the
+/// step.
 pub fn corners_that_show_one_address_agree()
     ensures law { CornersAgree }
 {}
 
-/// A table has one inverse.
+/// A table has at most one inverse.
 pub fn there_is_one_inverse()
     ensures law { IsTheOnlyOne }
 {}
 
-/// The inverted table makes of each state the least one with this successor.
+/// By the inverse of a reversible table, each block state becomes the least one with this
+/// successor.
 pub fn the_inverse_takes_preimages()
     ensures law { InvertedTakesPreimages }
 {}
 
-/// The inverted table gives each block back.
+/// A block that is changed by a reversible table, and then by its inverse, has its state again.
 pub fn the_inverse_gives_blocks_back()
     ensures law { InvertedUndoes }
 {}
 
-/// What is refused has the cause for which it is refused, and what has no cause is reversible.
+/// A table is refused for the cause that a search finds. A table is reversible exactly if the
+/// search finds no cause.
 pub fn a_refusal_has_its_cause()
     ensures law { CauseIsFound }
 {}

@@ -24,7 +24,7 @@ pub fn replies_alone(
     Ok((replies, machine))
 }
 
-/// A machine's replies to commands, in order.
+/// Does commands one after another, and returns their replies in order.
 fn replies_of(
     alloc: Global,
     machine: &mut Machine,

@@ -37,14 +37,14 @@ impl Model for Held {
 }
 
 impl Held {
-    /// Holds this image.
+    /// Makes a holder of this image.
     pub(crate) fn of(image: AtRest) -> Held
         ensures { result ≡ image.planes }
     {
         Held { image: Some(image) }
     }
 
-    /// Gives the image back.
+    /// Gives up the holder, and returns its image.
     pub(crate) fn into_image(self) -> AtRest
         ensures { result.planes ≡ self }
     {
@@ -54,7 +54,7 @@ impl Held {
         }
     }
 
-    /// The image, which is there between commands.
+    /// Lends the image. It is there at each call: only steps take it out, and they put it back.
     pub(crate) fn at_rest(&self) -> &AtRest
         ensures { result.now.planes ≡ self.now }
     {
@@ -64,7 +64,7 @@ impl Held {
         }
     }
 
-    /// The planes that the image shows.
+    /// Lends the planes of the image.
     pub(crate) fn planes(&self) -> &Planes
         ensures { result.now ≡ self.now }
     {
@@ -99,7 +99,7 @@ impl Held {
         image.planes_mut().clear_plane(p);
     }
 
-    /// Changes the side, and sets every bit to 0.
+    /// Changes the side of the image, and sets every bit to 0.
     pub(crate) fn set_side(&mut self, side: Side)
         requires within { side_number side ≤ side_number self.old.limit }
         ensures cells { cells self.new ≡ no_cells }
@@ -112,7 +112,7 @@ impl Held {
         image.planes_mut().set_side(side);
     }
 
-    /// Changes the side, and writes the rows of four planes of it.
+    /// Changes the side of the image, and writes all rows of its four planes.
     pub(crate) fn put_planes(&mut self, side: Side, rows: &[BitRows; 4])
         requires within { side_number side ≤ side_number self.old.limit }
         requires rows { are_planes (side_number side) rows.now ≡ true }
@@ -126,7 +126,8 @@ impl Held {
         put_planes(image.planes_mut(), side, rows);
     }
 
-    /// Does `n` steps one way along the cycle in `kept`, and sets the position there.
+    /// Does `n` steps of the image along the cycle in `kept` (backward, undoes them). Sets the
+    /// position in `kept` to that after them.
     pub(crate) fn go(&mut self, kept: &mut Kept, n: u16, direction: Direction)
         requires accepted { refusal (machine_over self.old kept.old) (command_of n direction)
             ≡ None }

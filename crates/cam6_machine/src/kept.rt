@@ -68,7 +68,7 @@ impl Kept {
     ghost use Rattle.cam6_machine.specs.Stored.{machine_over, nothing_kept, IsKept};
     ghost use Rattle.cam6_machine.specs.AtOnce.{work_in, IsReplyTo, machine_then, CanWork};
 
-    /// What a blank machine of this limit keeps.
+    /// Makes what a blank machine of this limit keeps beside its image.
     pub(crate) fn new(alloc: Global, limit: Side) -> Result<Kept, NoMemory>
         ensures { IfOk result (λ kept. kept ≡ nothing_kept limit) }
     {
@@ -85,42 +85,42 @@ impl Kept {
         })
     }
 
-    /// Returns the largest side that the planes may have. The clause `kept` gives the invariant of
-    /// what a machine keeps.
+    /// Returns the largest side that the machine's planes may have.
     pub fn limit(&self) -> Side
         ensures limit { result ≡ self.now.limit }
+        // The invariant of what a machine keeps.
         ensures kept { IsKept self.now }
     {
         self.limit
     }
 
-    /// The rules by name, in the order in which the names came first.
+    /// Lends the rules, in the order in which their names were first defined.
     pub fn rules(&self) -> &Rules
         ensures { result.now ≡ self.now.rules }
     {
         &self.rules
     }
 
-    /// The cycle, by the numbers of its rules, if one is set.
+    /// Lends the cycle, with its rules by their numbers. Returns `None` if none is set.
     pub fn cycle(&self) -> Option<&Cycle>
         ensures { entries_of (option_copied result) ≡ self.now.cycle }
     {
         self.cycle.as_ref()
     }
 
-    /// The position in the cycle, or 0 without a cycle.
+    /// Returns the position in the cycle, or 0 if no cycle is set.
     pub fn position(&self) -> usize
         ensures { result ≡ self.now.position }
     {
         self.position
     }
 
-    /// The allocator of all that the machine keeps.
+    /// Returns the allocator of all that the machine keeps.
     pub(crate) fn alloc(&self) -> Global {
         self.alloc
     }
 
-    /// A colour for each state of a cell.
+    /// Lends the colours, one for each state of a cell.
     pub(crate) fn colours(&self) -> &[u8; 16]
         ensures colours { result.now ≡ self.now.colours }
         ensures within { AllByRecursion (λ colour. colour ≤ max_colour) result.now }
@@ -135,7 +135,7 @@ impl Kept {
         self.position = 0;
     }
 
-    /// Sets the position in the cycle.
+    /// Sets the position in the cycle to this one.
     pub(crate) fn stand_at(&mut self, position: usize)
         requires { IsPosition (named_entries self.old.rules self.old.cycle) position }
         ensures { self.new ≡ record self.old { position = position } }
@@ -143,8 +143,8 @@ impl Kept {
         self.position = position;
     }
 
-    /// Defines a rule, in place of the one that has its name, and replies. A refusal is a reply
-    /// too. If it is refused or an allocation fails, all rules stay as they were.
+    /// Defines a rule, in place of the one that has its name, and returns the reply. A refusal is a
+    /// reply too. If it is refused or an allocation fails, all rules stay as they were.
     pub(crate) fn define(
         &mut self,
         name: Text,
@@ -174,7 +174,8 @@ impl Kept {
         Ok(Reply::Done(Done::Rule))
     }
 
-    /// Drops the rule that has the name, unless there is none or the cycle uses it.
+    /// Drops the rule that has the name, and returns the reply. If no rule has the name or the
+    /// cycle uses it, the reply is the refusal, and nothing changes.
     pub(crate) fn drop_rule(&mut self, name: &Text) -> Reply
         ensures reply { (planes : Stored) →
             result ≡ reply (machine_over planes self.old) (Command.Drop name.now) }
@@ -189,7 +190,7 @@ impl Kept {
         Reply::Done(Done::Drop)
     }
 
-    /// Replies with the names of all rules, in their order.
+    /// Returns the reply with the names of all rules, in their order.
     pub(crate) fn list_rules(&self) -> Result<Reply, NoMemory>
         ensures reply { (planes : Stored) → IfOk result (λ r.
             r ≡ reply (machine_over planes self.now) Command.Rules) }
@@ -201,7 +202,8 @@ impl Kept {
         Ok(Reply::Done(Done::Rules { names }))
     }
 
-    /// Sets the colours of all states, unless one of them is above 15.
+    /// Sets the colours of all states, and returns the reply. If one of them is above 15, the reply
+    /// is the refusal, and nothing changes.
     pub(crate) fn set_colours(&mut self, colours: &[u64; 16]) -> Reply
         ensures reply { (planes : Stored) →
             result ≡ reply (machine_over planes self.old) (Command.Map colours.now) }
@@ -218,7 +220,8 @@ impl Kept {
         }
     }
 
-    /// Sets the cycle, and the position to 0. If the entries are refused, both stay as they were.
+    /// Sets the cycle, and the position to 0, and returns the reply. If the entries are refused,
+    /// the reply is the refusal, and nothing changes.
     pub(crate) fn set_cycle(&mut self, entries: &NamedEntries) -> Reply
         ensures reply { (planes : Stored) →
             result ≡ reply (machine_over planes self.old) (Command.Cycle entries.now) }
@@ -237,8 +240,8 @@ impl Kept {
         }
     }
 
-    /// Returns the steps that a run has to do. If there are none or the run is refused, returns the
-    /// reply.
+    /// Returns the `n` steps that a run has to do, as work. If there are none or the run is
+    /// refused, returns the reply. Changes nothing.
     pub(crate) fn work_of_run(&self, n: u64) -> Now
         ensures work { (planes : Stored) →
             work_in result ≡ work_of (machine_over planes self.now) (Command.Run n) }
@@ -254,8 +257,9 @@ impl Kept {
         }
     }
 
-    /// Returns the steps that have to be undone. If there are none or they are refused, returns the
-    /// reply. Fills the tables for them, to see whether they can be undone.
+    /// Returns the `n` steps that a `back` has to undo, as work. If there are none or it is
+    /// refused, returns the reply. Fills the tables for these steps, to see whether they can be
+    /// undone.
     pub(crate) fn work_of_back(&mut self, n: u64) -> Now
         ensures work { (planes : Stored) →
             work_in result ≡ work_of (machine_over planes self.old) (Command.Back n) }
@@ -276,7 +280,8 @@ impl Kept {
         }
     }
 
-    /// What is saved of the machine that has these planes.
+    /// Returns what a save of the machine with these planes returns: a copy of all of it but its
+    /// limit.
     pub(crate) fn saved(&self, planes: &Planes) -> Result<SavedMachine, NoMemory>
         ensures { IfOk result (λ saved. saved ≡ saved_of (machine_over planes.now self.now)) }
     {
@@ -292,9 +297,8 @@ impl Kept {
         })
     }
 
-    /// Loads what was saved of a machine beside its planes, and returns its side and its planes. If
-    /// it is refused, returns the fault within `Ok`. If it is refused or an allocation fails, what
-    /// is kept stays as it was.
+    /// Loads all of a saved machine but its planes, and returns its side and its planes. If it is
+    /// refused, returns `Ok(Err(fault))`. If it is refused or an allocation fails, nothing changes.
     pub(crate) fn load(
         &mut self,
         saved: SavedMachine,
@@ -327,9 +331,9 @@ impl Kept {
         }
     }
 
-    /// Does `n` steps of an image one way along the cycle, and sets the position after them. First
-    /// fills the tables, unless they are filled for this way. There has to be a cycle, and backward
-    /// each of its rules can be undone.
+    /// Does `n` steps of an image along the cycle (backward, undoes them), and returns the image.
+    /// Sets the position to that after them. First fills the tables, unless they are filled for
+    /// this direction. A cycle must be set, and backward each of its rules can be undone.
     pub(crate) fn go(&mut self, image: AtRest, n: u16, direction: Direction) -> AtRest
         requires accepted { refusal (machine_over image.planes self.old) (command_of n direction)
             ≡ None }

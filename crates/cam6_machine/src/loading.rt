@@ -32,8 +32,8 @@ pub(crate) struct Loaded {
     pub(crate) colours: [u8; 16],
 }
 
-/// Returns what was saved as it is loaded, or within `Ok` the fault for which it isn't. The tables
-/// have scratch to try its rules.
+/// Checks what was saved of a machine, and returns it as it is loaded. If it is refused, returns
+/// `Ok(Err(fault))`. `scratch` lends memory to try its rules, and stays as it was.
 pub(crate) fn tried_machine(
     alloc: Global,
     limit: Side,
@@ -85,7 +85,8 @@ pub(crate) fn tried_machine(
     }))
 }
 
-/// Returns the cycle of these entries by the numbers of their rules, or `None` for no entries.
+/// Returns the cycle of these entries, with the numbers of their rules, or `None` if there are no
+/// entries. Returns the fault if the entries are refused.
 fn cycle_of(rules: &Rules, entries: &NamedEntries) -> Result<Option<Cycle>, Fault>
     ensures entries { is_ok result ≡ are_entries rules.now entries.now }
     ensures named { IfOk result (λ cycle.
@@ -98,7 +99,7 @@ fn cycle_of(rules: &Rules, entries: &NamedEntries) -> Result<Option<Cycle>, Faul
     Ok(Some(rules.cycle_of(entries)?))
 }
 
-/// Whether a position is below the cycle's length, or 0 without a cycle.
+/// Whether the position is below the number of entries, or 0 if there are no entries.
 fn is_position(entries: &[NamedEntry], position: u64) -> bool
     ensures { result ≡ is_position entries.now position }
 {
@@ -109,21 +110,22 @@ fn is_position(entries: &[NamedEntry], position: u64) -> bool
     }
 }
 
-/// Whether these are the rows of four planes of this side.
+/// Whether these are four planes of this side: each has a row of bits for each row of the torus.
 fn are_planes(side: Side, planes: &[BitRows; 4]) -> bool
     ensures { result ≡ are_planes (side_number side) planes.now }
 {
     all_planes(side, planes)
 }
 
-/// Whether each of these is all rows of a plane of this side. Their number doesn't matter.
+/// Whether each of these planes has all rows of this side. How many planes there are doesn't
+/// matter.
 fn all_planes(side: Side, planes: &[BitRows]) -> bool
     ensures { result ≡ list_all (are_rows (side_number side)) planes.now }
 {
     planes.iter().all(|rows| are_rows(side, rows))
 }
 
-/// Whether these are all rows of a plane of this side.
+/// Whether a plane has as many rows as this side, and each row a bit for each column.
 fn are_rows(side: Side, rows: &BitRows) -> bool
     ensures { result ≡ are_rows (side_number side) rows.now }
 {
@@ -131,7 +133,8 @@ fn are_rows(side: Side, rows: &BitRows) -> bool
     rows.len() == side.number() && all_rows(side, rows)
 }
 
-/// Whether each row has a bit for each column of this side. The number of rows doesn't matter.
+/// Whether each of these rows has a bit for each column of this side. How many rows there are
+/// doesn't matter.
 fn all_rows(side: Side, rows: &[Bits]) -> bool
     ensures { result ≡ list_all (is_row (side_number side)) rows.now }
 {
@@ -145,7 +148,7 @@ fn is_row(side: Side, row: &Bits) -> bool
     row.as_slice().len() == side.number() / 8
 }
 
-/// Changes the side, and writes the rows of four planes of it.
+/// Changes the side of the planes, and writes all rows of the four planes.
 pub(crate) fn put_planes(planes: &mut Planes, side: Side, rows: &[BitRows; 4])
     requires within { side_number side ≤ side_number planes.old.limit }
     requires rows { are_planes (side_number side) rows.now ≡ true }

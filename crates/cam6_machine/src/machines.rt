@@ -63,10 +63,10 @@ impl Machine {
         })
     }
 
-    /// Returns the largest side that the machine may have. The clause `machine` gives the machine's
-    /// invariant.
+    /// Returns the largest side that the machine may have.
     pub fn limit(&self) -> Side
         ensures limit { result ≡ self.now.kept.limit }
+        // The machine's invariant.
         ensures machine { IsMachine (machine_of self.now) }
     {
         // Planes have a side within their limit.
@@ -74,7 +74,7 @@ impl Machine {
         self.kept.limit()
     }
 
-    /// Takes the machine apart: what it keeps, its image and the spare one.
+    /// Gives up the machine, and returns what it keeps, its image and the spare one.
     pub fn into_parts(self) -> (Kept, AtRest, Spare)
         ensures kept { result.0 ≡ self.kept }
         ensures image { result.1.planes ≡ self.planes }
@@ -84,9 +84,9 @@ impl Machine {
         (self.kept, self.image.into_image(), self.spare)
     }
 
-    /// Does a command and replies to it. If the command has steps to do, returns these instead, and
-    /// `work` does them. Allocates all memory of the command. If an allocation fails, nothing
-    /// changes.
+    /// Does a command without its steps. Returns the reply, or the steps that the command has to
+    /// do, which `work` then does. Allocates all memory of the command. If an allocation fails,
+    /// nothing changes.
     pub fn now(&mut self, command: Command) -> Result<Now, NoMemory>
         // Steps are left exactly if the command does some.
         ensures work { IfOk result (λ now. work_in now ≡ work_of (machine_of self.old) command) }
@@ -121,7 +121,7 @@ impl Machine {
         }
     }
 
-    /// Writes a row of a plane. If it is refused, nothing changes.
+    /// Writes a row of a plane, and returns the reply. If it is refused, nothing changes.
     fn set(&mut self, plane: u64, row: u64, bits: &Bits) -> Reply
         ensures reply { result ≡ reply (machine_of self.old) (Command.Set plane row bits.now) }
         ensures machine { machine_of self.new
@@ -136,7 +136,8 @@ impl Machine {
         Reply::Done(Done::Set)
     }
 
-    /// Sets every bit of a plane to 0. If there is no such plane, nothing changes.
+    /// Sets every bit of a plane to 0, and returns the reply. If there is no such plane, it is a
+    /// refusal, and nothing changes.
     fn clear(&mut self, plane: u64) -> Reply
         ensures reply { result ≡ reply (machine_of self.old) (Command.Clear plane) }
         ensures machine { machine_of self.new
@@ -150,8 +151,8 @@ impl Machine {
         Reply::Done(Done::Clear)
     }
 
-    /// Changes the side, and sets every bit and the position to 0, even if the side is the same. If
-    /// it is refused, nothing changes.
+    /// Changes the side, sets every bit and the position to 0, even if the side is the same, and
+    /// returns the reply. If it is refused, nothing changes.
     fn set_side(&mut self, number: u64) -> Reply
         ensures reply { result ≡ reply (machine_of self.old) (Command.Side number) }
         ensures machine { machine_of self.new
@@ -167,7 +168,7 @@ impl Machine {
         }
     }
 
-    /// Replies with the digits of a row of a plane.
+    /// Returns the reply with the digits of a row of a plane, or a refusal.
     fn show_row(&self, plane: u64, row: u64) -> Reply
         ensures reply { result ≡ reply (machine_of self.now) (Command.Row plane row) }
         ensures machine { machine_of self.now
@@ -183,7 +184,7 @@ impl Machine {
         }
     }
 
-    /// Replies with the digits of all rows of a plane.
+    /// Returns the reply with the digits of all rows of a plane, or a refusal.
     fn show(&self, plane: u64) -> Result<Reply, NoMemory>
         ensures reply { IfOk result (λ r.
             r ≡ reply (machine_of self.now) (Command.Plane plane)) }
@@ -200,7 +201,7 @@ impl Machine {
         }
     }
 
-    /// Replies with the colour of each cell of a row.
+    /// Returns the reply with the colour of each cell of a row, or a refusal.
     fn show_colours(&self, row: u64) -> Reply
         ensures reply { result ≡ reply (machine_of self.now) (Command.Colours row) }
         ensures machine { machine_of self.now ≡ after (machine_of self.now) (Command.Colours row) }
@@ -215,7 +216,7 @@ impl Machine {
         }
     }
 
-    /// Replies with the number of cells whose state is in the mask.
+    /// Returns the reply with the number of cells whose state is in the mask, or a refusal.
     fn count_cells(&self, mask: u64) -> Reply
         ensures reply { result ≡ reply (machine_of self.now) (Command.Count mask) }
         ensures machine { machine_of self.now ≡ after (machine_of self.now) (Command.Count mask) }
@@ -229,7 +230,7 @@ impl Machine {
         }
     }
 
-    /// Replies with all of the machine but its limit.
+    /// Returns the reply with a copy of all of the machine but its limit.
     fn save(&self) -> Result<Reply, NoMemory>
         ensures reply { IfOk result (λ r. r ≡ reply (machine_of self.now) Command.Save) }
         ensures machine { machine_of self.now ≡ after (machine_of self.now) Command.Save }
@@ -238,8 +239,8 @@ impl Machine {
         Ok(Reply::Done(Done::Save { machine }))
     }
 
-    /// Puts a saved machine in the place of this one, whose limit stays. If it is refused or an
-    /// allocation fails, nothing changes.
+    /// Makes this machine the saved one, but keeps its limit, and returns the reply. If it is
+    /// refused or an allocation fails, nothing changes.
     fn load(&mut self, saved: SavedMachine) -> Result<Reply, NoMemory>
         ensures reply { IfOk result (λ r. r ≡ reply (machine_of self.old) (Command.Load saved)) }
         ensures machine { IfOk result (λ r.
@@ -257,7 +258,8 @@ impl Machine {
         }
     }
 
-    /// Does the steps of a command, and replies to it. Does not allocate.
+    /// Does `n` steps of a command along the cycle (backward, undoes them), and returns the
+    /// command's reply. Does not allocate.
     pub fn work(&mut self, n: u16, direction: Direction) -> Reply
         requires accepted { refusal (machine_of self.old) (command_of n direction) ≡ None }
         ensures reply { result ≡ reply (machine_of self.old) (command_of n direction) }
@@ -268,7 +270,8 @@ impl Machine {
         reply_at(direction, self.kept.position())
     }
 
-    /// Does a command with its steps, and replies to it. If an allocation fails, nothing changes.
+    /// Does a command with its steps, and returns its reply. If an allocation fails, nothing
+    /// changes.
     pub fn reply_to(&mut self, command: Command) -> Result<Reply, NoMemory>
         ensures reply { IfOk result (λ r. r ≡ reply (machine_of self.old) command) }
         ensures machine { IfOk result (λ r.
@@ -289,7 +292,7 @@ impl Kept {
     ghost use Rattle.cam6_rules.specs.Numbers.{named_entries};
     ghost use Rattle.cam6_machine.specs.Stored.{machine_of, machine_over};
 
-    /// Makes the machine that keeps this beside an image and a spare one, at a position of its
+    /// Makes a machine of what another one kept, an image, a spare one, and a position in the
     /// cycle. Does not allocate.
     pub fn join(self, image: AtRest, spare: Spare, position: usize) -> Machine
         requires image { image.planes.limit ≡ self.limit }
@@ -310,7 +313,8 @@ impl Kept {
     }
 }
 
-/// Planes of this limit with every bit 0, at the side with which a machine begins.
+/// Makes the planes of a blank machine of this limit: every bit is 0, and the side is the lesser of
+/// 256 and the limit.
 fn first_planes(alloc: Global, limit: Side) -> Result<Planes, NoMemory>
     ensures cells { IfOk result (λ planes. cells planes ≡ no_cells) }
     ensures side { IfOk result (λ planes. planes.side ≡ first_side limit) }
@@ -321,7 +325,7 @@ fn first_planes(alloc: Global, limit: Side) -> Result<Planes, NoMemory>
     Ok(planes)
 }
 
-/// The lesser of 256 and the limit.
+/// Returns the side of a blank machine: the lesser of 256 and the limit.
 fn first_side(limit: Side) -> Side
     ensures side { result ≡ first_side limit }
     ensures within { side_number result ≤ side_number limit }

@@ -32,7 +32,9 @@ pub(crate) fn accept_row(
     Ok((plane, row))
 }
 
-/// As `accept_row`, for a row that is to be set. Then refuses bits that aren't one for each column.
+/// Returns the plane and the row of these numbers, for a row that is to be written. Returns the
+/// fault if there is no such plane or row, or if `bits` has not one bit for each column. The
+/// plane's fault comes first, and that of the bits last.
 pub(crate) fn accept_set(
     side: Side,
     plane: u64,
@@ -51,7 +53,8 @@ pub(crate) fn accept_set(
     Ok(at)
 }
 
-/// Returns the side of a number. Refuses a number that is no side, and a side above the limit.
+/// Returns the side with this number. Returns the fault if no side has this number, or if it is
+/// above the limit.
 pub(crate) fn accept_side(limit: Side, number: u64) -> Result<Side, Fault>
     ensures refusal { result_err result ≡ side_refusal limit number }
     ensures side { IfOk result (λ side. side_of number ≡ Some side) }
@@ -66,8 +69,8 @@ pub(crate) fn accept_side(limit: Side, number: u64) -> Result<Side, Fault>
     Ok(side)
 }
 
-/// Returns the cycle and the steps of a run. Refuses more than 65,535 steps first, and then a run
-/// without a cycle.
+/// Returns the cycle and the number of steps of a run. Returns the fault if there are more than
+/// 65,535 steps, or else if no cycle is set.
 pub(crate) fn accept_run(cycle: &Option<Cycle>, n: u64) -> Result<(&Cycle, StepCount), Fault>
     // For whatever rules the numbers are of.
     ensures refusal { (rules : List Rule) →
@@ -86,7 +89,7 @@ pub(crate) fn accept_run(cycle: &Option<Cycle>, n: u64) -> Result<(&Cycle, StepC
     }
 }
 
-/// Returns the colours of the states as they are kept. Refuses them if one is above 15.
+/// Returns the colours of all states as a machine keeps them. Returns the fault if one is above 15.
 pub(crate) fn accept_colours(colours: &[u64; 16]) -> Result<[u8; 16], Fault>
     ensures refusal { result_err result ≡ map_refusal colours.now }
     ensures colours { IfOk result (λ kept. kept ≡ colours.now) }
@@ -98,7 +101,7 @@ pub(crate) fn accept_colours(colours: &[u64; 16]) -> Result<[u8; 16], Fault>
     Ok(kept)
 }
 
-/// Returns a colour as it is kept. Refuses one above 15.
+/// Returns a colour as a machine keeps it. Returns the fault if it is above 15.
 fn accept_colour(colour: u64) -> Result<u8, Fault>
     ensures refusal { result_err result ≡ unless (nat_le colour max_colour) OutOfRange }
     ensures colour { IfOk result (λ kept. kept ≡ colour) }

@@ -13,7 +13,7 @@ use cam6_planes::{NoMemory, Planes};
 use cam6_view::{COLOURS, colour_row};
 use std::alloc::Global;
 
-/// The colours of row `y`, by a colour for each state.
+/// Returns the colours of the cells of row `y`. `map` has the colour of each state.
 pub(crate) fn row_colours(rest: &AtRest, map: &[u8; 16], y: usize) -> RowColours
     requires row { y < width rest.now.planes }
     requires colours { AllByRecursion (λ colour. colour ≤ max_colour) map.now }
@@ -24,7 +24,7 @@ pub(crate) fn row_colours(rest: &AtRest, map: &[u8; 16], y: usize) -> RowColours
     RowColours::new(count, colours)
 }
 
-/// The text of each row of plane `p`.
+/// Returns the digits of each row of plane `p`.
 pub(crate) fn plane_rows(alloc: Global, planes: &Planes, p: usize) -> Result<PlaneRows, NoMemory>
     requires { p < 4 }
     ensures { let s = width planes.now in

@@ -15,7 +15,8 @@ use cam6_band::{AtRest, Scratch, tables_of_step};
 use cam6_cycle::{Cycle, Direction};
 use cam6_entries::Table;
 
-/// Goes so many steps one way along the cycle, and returns the image and the position after them.
+/// Does `n` steps of an image along the cycle from a position (backward, undoes them), by tables
+/// that are filled for it. Returns the image and the position after them.
 pub(crate) fn go_along(
     image: AtRest,
     cycle: &Cycle,

@@ -8,7 +8,7 @@ use cam6_commands::BitRows;
 use cam6_planes::{NoMemory, Planes};
 use std::alloc::Global;
 
-/// The bits of all rows of all four planes.
+/// Returns the bits of all rows of all four planes.
 pub(crate) fn saved_planes(alloc: Global, planes: &Planes) -> Result<[BitRows; 4], NoMemory>
     ensures { IfOk result (λ saved. saved ≡ four_planes (width planes.now) (cells planes.now)) }
 {
@@ -20,7 +20,7 @@ pub(crate) fn saved_planes(alloc: Global, planes: &Planes) -> Result<[BitRows; 4
     ])
 }
 
-/// The bits of each row of plane `p`.
+/// Returns the bits of all rows of plane `p`.
 fn plane_bits(alloc: Global, planes: &Planes, p: usize) -> Result<BitRows, NoMemory>
     requires { p < 4 }
     ensures { IfOk result (λ rows. rows ≡ plane_bytes (width planes.now) (cells planes.now) p) }
@@ -33,7 +33,7 @@ fn plane_bits(alloc: Global, planes: &Planes, p: usize) -> Result<BitRows, NoMem
     Ok(BitRows::new(rows))
 }
 
-/// The colours as numbers of a command.
+/// Returns the colours as numbers, as a command has them.
 pub(crate) fn saved_colours(colours: &[u8; 16]) -> [u64; 16]
     ensures { result ≡ colours.now }
 {

@@ -6,8 +6,8 @@ ghost use Rattle.cam6_band.specs.ByTables.{step_by, values_of};
 
 use cam6_band::{AtRest, EntryTables, Scratch};
 
-/// One step by tables, band by band, with scratch that is lent to each band. Each cell of both
-/// halves takes what its half's table makes of the planes.
+/// Does one step of an image by an entry's tables, band by band. Each cell becomes what its half's
+/// table makes of the planes. The scratch may hold anything.
 pub(crate) fn step(image: AtRest, tables: &EntryTables, scratch: &mut Scratch) -> AtRest
     ensures planes { cells result.planes
         ≡ step_by (width image.planes) (values_of tables.now) (cells image.planes) }

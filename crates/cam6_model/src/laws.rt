@@ -8,42 +8,43 @@ ghost use Rattle.cam6_model.specs.Laws.{BackGivesTheMachineBack, BackNeedsRevers
 ghost use Rattle.cam6_model.specs.Laws.{LoadGivesBack, LoadTakesSaved, SavedOfOne};
 ghost use Rattle.cam6_model.specs.Laws.{LoadedAnswersAlike, RecoveryIsExact, RecoveriesAreExact};
 
-/// A step by the tables of an entry's rules is the step by the rules' words.
+/// A step of an entry by the true tables of its rules is the step by the rules' words.
 pub fn true_tables_step_as_words_do()
     ensures law { TrueTablesStep }
 {}
 
-/// A half without a rule keeps its planes, in a step and in a step undone.
+/// A half without a rule keeps its planes, in a step done and in a step undone.
 pub fn a_half_without_a_rule_keeps_its_planes()
     ensures law { KeepsItsPlanes }
 {}
 
-/// Some steps one way and then more are all of them together.
+/// Some steps in a direction, and then more, are the steps of both numbers together.
 pub fn steps_add_up()
     ensures law { StepsAddUp }
 {}
 
-/// Steps one way change planes and position, and nothing else.
+/// Steps in either direction change a machine's planes and its position, and nothing else.
 pub fn steps_change_planes_and_position_alone()
     ensures law { OnlyPlanesAndPosition }
 {}
 
-/// The position moves by one with each step, on or back, round the cycle.
+/// Each step moves the position by one, round the cycle: up if it is done, and down if it is
+/// undone.
 pub fn the_position_goes_round()
     ensures law { PositionGoesRound }
 {}
 
-/// A blank machine of any limit is what a machine always is (`specs/Always.antt`).
+/// A blank machine of any limit has the invariant of a machine (`specs/Always.antt`).
 pub fn the_blank_machine_is_one()
     ensures law { BlankIsMachine }
 {}
 
-/// After any command in UTF-8 a machine is still a machine.
+/// A machine has its invariant after any command whose rule texts are UTF-8.
 pub fn a_machine_stays_one()
     ensures law { StaysMachine }
 {}
 
-/// The rules that a machine's cycle names are there, and stop nowhere, whatever is seen.
+/// Each rule that a machine's cycle names is defined, and stops nowhere, whatever a cell sees.
 pub fn the_rules_of_a_cycle_run()
     ensures law { RulesRun }
 {}
@@ -53,68 +54,73 @@ pub fn the_limit_stays()
     ensures law { LimitStays }
 {}
 
-/// A step by rules that see only their blocks changes each block as a whole.
+/// A step by rules that see only their blocks changes each block of the grid as a whole. The side
+/// must be even.
 pub fn a_step_changes_blocks()
     ensures law { StepChangesBlocks }
 {}
 
-/// A step by the tables that undo an entry's rules is the entry's step undone.
+/// On a torus of even side, a step by the tables that undo an entry's rules is the entry's step
+/// undone. Each of its rules must be one that can be undone.
 pub fn inverted_tables_undo_a_step()
     ensures law { InvertedTablesUndo }
 {}
 
-/// Steps that are done and then undone give the machine back, if every rule of the cycle can be
-/// undone.
+/// If every rule of the cycle can be undone, steps that are done and then undone give the machine
+/// back.
 pub fn undoing_gives_the_machine_back()
     ensures law { UndoingUndoes }
 {}
 
-/// Steps that are undone and then done give it back too.
+/// If every rule of the cycle can be undone, steps that are undone and then done again give the
+/// machine back.
 pub fn doing_again_gives_the_machine_back()
     ensures law { DoingRedoes }
 {}
 
-/// A machine that may go back, and that runs and then goes back as far, is the machine that it was.
-/// So is one that goes back and then runs.
+/// If a machine accepts to go back so many steps, running as many and then going back gives the
+/// machine back. So does going back and then running.
 pub fn a_back_that_is_accepted_undoes_a_run()
     ensures law { BackGivesTheMachineBack }
 {}
 
-/// A machine may go back so many steps exactly if it may run as many, and every rule of its cycle
-/// can be undone.
+/// A machine accepts to go back so many steps exactly if two things hold. It accepts to run as
+/// many, and every rule of its cycle can be undone.
 pub fn a_back_needs_rules_that_can_be_undone()
     ensures law { BackNeedsReversibleRules }
 {}
 
-/// What was saved of a machine is loaded by every machine with a limit that allows its side. That
-/// machine then is the saved one, but for its limit.
+/// Every machine whose limit allows the side of a saved machine accepts to load it. It then is the
+/// saved machine, but keeps its own limit.
 pub fn a_load_gives_the_saved_machine_back()
     ensures law { LoadGivesBack }
 {}
 
-/// What a load doesn't refuse was saved of the machine that the load makes.
+/// A machine loads nothing but what a save returns: what is loaded without a refusal is what the
+/// loaded machine saves.
 pub fn a_load_takes_nothing_else()
     ensures law { LoadTakesSaved }
 {}
 
-/// Machines that are saved alike differ only in their limits.
+/// If two machines save the same, they differ at most in their limits.
 pub fn what_is_saved_is_of_one_machine()
     ensures law { SavedOfOne }
 {}
 
-/// A machine that was saved and loaded under the same limit replies to all commands as before.
+/// A machine that loads what another one of its limit saved gives the replies of the other one to
+/// all further commands.
 pub fn a_loaded_machine_answers_alike()
     ensures law { LoadedAnswersAlike }
 {}
 
-/// A machine that loads what was saved of a lost one of its limit, and is given the commands since,
-/// goes on as if nothing had been lost. The machine and all replies are those of one list of
-/// commands.
+/// If a machine is lost, another one of its limit can load what was saved of it, and do the
+/// commands since. Then the machine and all replies are those of one machine that did all commands.
 pub fn recovery_is_exact()
     ensures law { RecoveryIsExact }
 {}
 
-/// So are they if machines are lost again and again.
+/// Machines of one limit are lost again and again, and each time another one loads what was saved.
+/// All replies are still those of one machine that did all commands.
 pub fn recoveries_are_exact()
     ensures law { RecoveriesAreExact }
 {}

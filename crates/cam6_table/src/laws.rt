@@ -4,12 +4,13 @@ ghost use Rattle.cam6_table.specs.Laws.{TrueTableIsRule, TreesMeanTheSame, Least
 ghost use Rattle.cam6_table.specs.Laws.{NoneIsFound, WantsValues, RunsEverywhere};
 ghost use Rattle.cam6_table.specs.Laws.{FilledIsOfTheText};
 
-/// A true table, read at the address of what is seen, is the rule as a function of what is seen.
+/// The entry of a true table at the address of what a cell sees is the rule's result for what it
+/// sees.
 pub fn a_true_table_is_the_rule()
     ensures law { TrueTableIsRule }
 {}
 
-/// Trees of one rule mean the same, whatever is seen.
+/// Two trees of one rule have the same result, whatever a cell sees.
 pub fn trees_of_one_rule_mean_the_same()
     ensures law { TreesMeanTheSame }
 {}
@@ -19,23 +20,24 @@ pub fn the_least_stop_is_found()
     ensures law { LeastIsFound }
 {}
 
-/// A search over all addresses finds none if the rule stops nowhere.
+/// A search over all addresses finds no stop if the rule stops at none of them.
 pub fn no_stop_is_found()
     ensures law { NoneIsFound }
 {}
 
-/// A stack word stops with `MissingValue` exactly if there are fewer values than it wants.
+/// A stack word stops with `MissingValue` exactly if the stack has fewer values than the word
+/// needs.
 pub fn a_word_wants_so_many_values()
     ensures law { WantsValues }
 {}
 
-/// A rule that stops at no address stops nowhere, whatever is seen.
+/// A rule that stops at no address stops nowhere, whatever a cell sees.
 pub fn a_rule_that_stops_at_no_address_runs()
     ensures law { RunsEverywhere }
 {}
 
-/// If code of the rule that a text was accepted as filled a table, it is the text's code, and the
-/// table is the text's table.
+/// If code fills a table, and it is code of the rule that a text was accepted as, it is the text's
+/// code. The table is then the text's table.
 pub fn code_that_filled_a_table_is_its_texts()
     ensures law { FilledIsOfTheText }
 {}
