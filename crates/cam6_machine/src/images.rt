@@ -55,7 +55,7 @@ impl Held {
     }
 
     /// Lends the image. It is there at each call: only steps take it out, and they put it back.
-    pub(crate) fn at_rest(&self) -> &AtRest
+    pub(crate) fn image(&self) -> &AtRest
         ensures { result.now.planes ≡ self.now }
     {
         match &self.image {
@@ -68,7 +68,7 @@ impl Held {
     pub(crate) fn planes(&self) -> &Planes
         ensures { result.now ≡ self.now }
     {
-        self.at_rest().planes()
+        self.image().planes()
     }
 
     /// Writes row `y` of plane `p` from bytes. The first byte has columns 0 to 7.

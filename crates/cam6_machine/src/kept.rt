@@ -17,7 +17,7 @@ ghost use Rattle.cam6_machine.specs.Internal.Loading.{ArePlanesOf};
 ghost use Rattle.cam6_rules.specs.Numbers.{entries_of, named_entries};
 
 use crate::answers::work_or_reply;
-use crate::loading::{LoadedPlanes, tried_machine};
+use crate::loading::{LoadedPlanes, check_saved_machine};
 use crate::refusals::{accept_colours, accept_run};
 use crate::replies::Now;
 use crate::runs::go_along;
@@ -129,14 +129,14 @@ impl Kept {
     }
 
     /// Sets the position to 0.
-    pub(crate) fn begin_again(&mut self)
+    pub(crate) fn reset_position(&mut self)
         ensures { self.new ≡ record self.old { position = 0 } }
     {
         self.position = 0;
     }
 
     /// Sets the position in the cycle to this one.
-    pub(crate) fn stand_at(&mut self, position: usize)
+    pub(crate) fn set_position(&mut self, position: usize)
         requires { IsPosition (named_entries self.old.rules self.old.cycle) position }
         ensures { self.new ≡ record self.old { position = position } }
     {
@@ -233,7 +233,7 @@ impl Kept {
             Ok(cycle) => {
                 self.cycle = Some(cycle);
                 self.position = 0;
-                self.tables.spoil();
+                self.tables.invalidate();
                 Reply::Done(Done::Cycle)
             }
             Err(fault) => Reply::Refused(Refusal::Fault(fault)),
@@ -317,14 +317,14 @@ impl Kept {
         ensures err { OnErr result (self.new ≡ self.old) }
         ensures memory { saved.rules ≡ [] → IsOk result }
     {
-        match tried_machine(self.alloc, self.limit, saved, &mut self.tables)? {
+        match check_saved_machine(self.alloc, self.limit, saved, &mut self.tables)? {
             Ok(found) => {
                 self.rules = found.rules;
                 self.cycle = found.cycle;
                 self.position = found.position;
                 let colours = found.colours;
                 self.colours = colours;
-                self.tables.spoil();
+                self.tables.invalidate();
                 Ok(Ok(found.planes))
             }
             Err(fault) => Ok(Err(fault)),

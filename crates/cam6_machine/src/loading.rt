@@ -34,7 +34,7 @@ pub(crate) struct Loaded {
 
 /// Checks what was saved of a machine, and returns it as it is loaded. If it is refused, returns
 /// `Ok(Err(fault))`. `scratch` lends memory to try its rules, and stays as it was.
-pub(crate) fn tried_machine(
+pub(crate) fn check_saved_machine(
     alloc: Global,
     limit: Side,
     saved: SavedMachine,

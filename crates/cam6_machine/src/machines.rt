@@ -161,7 +161,7 @@ impl Machine {
         match accept_side(self.kept.limit(), number) {
             Ok(side) => {
                 self.image.set_side(side);
-                self.kept.begin_again();
+                self.kept.reset_position();
                 Reply::Done(Done::Side)
             }
             Err(fault) => Reply::Refused(Refusal::Fault(fault)),
@@ -208,7 +208,7 @@ impl Machine {
     {
         match RowNumber::of(self.image.planes().side(), row) {
             Ok(row) => {
-                let image = self.image.at_rest();
+                let image = self.image.image();
                 let colours = row_colours(image, self.kept.colours(), row.number());
                 Reply::Done(Done::Colours { colours })
             }
@@ -223,7 +223,7 @@ impl Machine {
     {
         match Mask::of(mask) {
             Ok(mask) => {
-                let count = count(self.image.at_rest(), mask.bits());
+                let count = count(self.image.image(), mask.bits());
                 Reply::Done(Done::Count { count })
             }
             Err(fault) => Reply::Refused(Refusal::Fault(fault)),
@@ -304,7 +304,7 @@ impl Kept {
             ≡ machine_over image.planes (record self { position = position }) }
     {
         let mut kept = self;
-        kept.stand_at(position);
+        kept.set_position(position);
         Machine {
             kept,
             image: Held::of(image),

@@ -76,7 +76,7 @@ impl CompiledRule {
     pub(crate) fn fill_by(
         &self,
         direction: Direction,
-        straight: &mut Table,
+        forward: &mut Table,
         table: &mut Table,
     ) -> Result<(), NotReversible>
         ensures table { IfOk result (λ _.
@@ -85,13 +85,13 @@ impl CompiledRule {
             (direction ≡ Backward)
             × (cause_of (reading_of wiring self.now.text) wiring.hood wiring.minor ≡ Some cause)) }
     {
-        fill_by(&self.code, self.wiring, direction, straight, table)
+        fill_by(&self.code, self.wiring, direction, forward, table)
     }
 }
 
 /// Compiles a rule's text, and tries it at every address. Returns the rule, or why the text is
 /// none. `scratch` lends memory for the trial, and stays as it was.
-pub(crate) fn tried_rule(
+pub(crate) fn compile_rule(
     alloc: Global,
     wiring: Wiring,
     text: Text,

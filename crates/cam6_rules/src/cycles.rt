@@ -47,25 +47,25 @@ pub(crate) fn numbered_cycle(
 
 /// Returns the cycle after the rule at a number is dropped: each later rule has a number less by
 /// one. Returns `None` if there are no entries.
-pub(crate) fn closed_cycle(cycle: &[Entry], number: usize) -> Option<Cycle>
+pub(crate) fn renumbered_cycle(cycle: &[Entry], number: usize) -> Option<Cycle>
     requires { length cycle.now ≤ max_entries }
     ensures { entries_of result ≡ map (closed_entry number) cycle.now }
 {
     let mut closed: ArrayVec<Entry, MAX_ENTRIES> = ArrayVec::new();
     for entry in cycle {
-        closed.push(closed_entry(*entry, number));
+        closed.push(renumbered_entry(*entry, number));
     }
     Cycle::new(closed.as_slice()).ok()
 }
 
 /// Returns an entry after the rule at a number is dropped: each later rule has a number less by
 /// one.
-fn closed_entry(entry: Entry, number: usize) -> Entry
+fn renumbered_entry(entry: Entry, number: usize) -> Entry
     ensures { result ≡ closed_entry number entry }
 {
     Entry {
-        a: closed_half(entry.a, number),
-        b: closed_half(entry.b, number),
+        a: renumbered_half(entry.a, number),
+        b: renumbered_half(entry.b, number),
         grid: entry.grid,
         phase: entry.phase,
     }
@@ -73,7 +73,7 @@ fn closed_entry(entry: Entry, number: usize) -> Entry
 
 /// Returns a half's rule after the rule at a number is dropped: a later rule has a number less by
 /// one.
-fn closed_half(rule: Option<HalfRule>, number: usize) -> Option<HalfRule>
+fn renumbered_half(rule: Option<HalfRule>, number: usize) -> Option<HalfRule>
     ensures { result ≡ closed_half number rule }
 {
     let rule = rule?;

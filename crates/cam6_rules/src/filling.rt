@@ -28,7 +28,7 @@ pub(crate) fn fill_entries(
     rules: &Rules,
     cycle: &Cycle,
     direction: Direction,
-    straight: &mut Table,
+    forward: &mut Table,
     tables: &mut [Table],
 ) -> Result<(), Refusal>
     requires names { HaveOwnNames rules.now }
@@ -43,12 +43,12 @@ pub(crate) fn fill_entries(
     for number in 0..entries.len() {
         let Entry { a, b, .. } = entries[number];
         let first = cycle.tables_before(number);
-        if let Err(cause) = fill_half(rules, &needed, first, a, direction, straight, tables) {
-            return Err(not_reversible(number, Half::A, cause));
+        if let Err(cause) = fill_half(rules, &needed, first, a, direction, forward, tables) {
+            return Err(irreversible_refusal(number, Half::A, cause));
         }
         let second = first + usize::from(a.is_some());
-        if let Err(cause) = fill_half(rules, &needed, second, b, direction, straight, tables) {
-            return Err(not_reversible(number, Half::B, cause));
+        if let Err(cause) = fill_half(rules, &needed, second, b, direction, forward, tables) {
+            return Err(irreversible_refusal(number, Half::B, cause));
         }
     }
     Ok(())
@@ -56,7 +56,7 @@ pub(crate) fn fill_entries(
 
 /// Returns the refusal of a cycle whose rule for this half of this entry can't be undone, with the
 /// cause. Entries are counted from 0.
-fn not_reversible(entry: usize, half: Half, cause: NotReversible) -> Refusal
+fn irreversible_refusal(entry: usize, half: Half, cause: NotReversible) -> Refusal
     ensures { result ≡ Refusal.NotReversible entry half cause }
 {
     Refusal::NotReversible { entry, half, cause }
@@ -70,7 +70,7 @@ fn fill_half(
     index: usize,
     rule: Option<HalfRule>,
     direction: Direction,
-    straight: &mut Table,
+    forward: &mut Table,
     tables: &mut [Table],
 ) -> Result<(), NotReversible>
     requires use_of { IsUseOf rule (slice_get needed.now index) }
@@ -85,7 +85,7 @@ fn fill_half(
     ensures room { length tables.new ≡ length tables.old }
 {
     match rule {
-        Some(_) => fill_use(rules, needed, index, direction, straight, tables),
+        Some(_) => fill_use(rules, needed, index, direction, forward, tables),
         None => Ok(()),
     }
 }
@@ -97,7 +97,7 @@ fn fill_use(
     needed: &[NeededTable],
     index: usize,
     direction: Direction,
-    straight: &mut Table,
+    forward: &mut Table,
     tables: &mut [Table],
 ) -> Result<(), NotReversible>
     requires index { index < length needed.now }
@@ -116,7 +116,7 @@ fn fill_use(
             rest[0].copy_from(&before[first]);
             Ok(())
         }
-        None => fill_table(rules, number, direction, straight, &mut rest[0]),
+        None => fill_table(rules, number, direction, forward, &mut rest[0]),
     }
 }
 
@@ -134,7 +134,7 @@ fn fill_table(
     rules: &Rules,
     number: usize,
     direction: Direction,
-    straight: &mut Table,
+    forward: &mut Table,
     table: &mut Table,
 ) -> Result<(), NotReversible>
     ensures table { OnOk result
@@ -143,7 +143,7 @@ fn fill_table(
         × (rule_cause (rule_at rules.now (Some number)) ≡ Some cause)) }
 {
     match rules.at(number) {
-        Some(rule) => rule.fill_by(direction, straight, table),
+        Some(rule) => rule.fill_by(direction, forward, table),
         None => Ok(()),
     }
 }

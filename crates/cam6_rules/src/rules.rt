@@ -6,8 +6,8 @@ ghost use Rattle.std.specs.Option.{option_copied};
 ghost use Rattle.std.specs.Result.{result_err};
 ghost use Rattle.std.specs.Str.{IsUtf8};
 
-use crate::compiled::{CompiledRule, tried_rule};
-use crate::cycles::{closed_cycle, entries_of, numbered_cycle};
+use crate::compiled::{CompiledRule, compile_rule};
+use crate::cycles::{entries_of, numbered_cycle, renumbered_cycle};
 use crate::named::{names_of, put, remove, wiring_of};
 use crate::refusals::{accept_cycle, accept_drop, accept_rule};
 use crate::saving::{saved_entries, saved_rules};
@@ -212,7 +212,7 @@ impl Rules {
         if let Err(fault) = accept_rule(&self.by_name, cycle, &name) {
             return Err(NotDefined::Refused(Refusal::Fault(fault)));
         }
-        match tried_rule(self.alloc, wiring, text, scratch) {
+        match compile_rule(self.alloc, wiring, text, scratch) {
             Ok(rule) => {
                 put(&mut self.by_name, name, rule)?;
                 Ok(())
@@ -246,7 +246,7 @@ impl Rules {
         ensures cycle { OnErr result (cycle.new ≡ cycle.old) }
     {
         let number = accept_drop(&self.by_name, entries_of(cycle), name)?;
-        *cycle = closed_cycle(entries_of(cycle), number);
+        *cycle = renumbered_cycle(entries_of(cycle), number);
         remove(&mut self.by_name, name);
         Ok(())
     }

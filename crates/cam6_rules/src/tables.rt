@@ -72,7 +72,7 @@ impl Tables {
     }
 
     /// Marks all tables as not filled. This is needed if another cycle is set.
-    pub fn spoil(&mut self)
+    pub fn invalidate(&mut self)
         ensures entries { self.new.entries ≡ self.old.entries }
         ensures filled { self.new.filled ≡ None }
     {

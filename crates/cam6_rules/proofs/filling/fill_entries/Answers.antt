@@ -68,10 +68,10 @@ returns-in-Err-clause-refusal c =
     let of_a : rule_cause (rule_at rules (number_in (get_or cycle n past).a)) ≡ Some cause =
     subst (λ (l : List Entry). rule_cause (rule_at rules (number_in (get_or l n past).a)) ≡ Some cause)
     same is in
-    first_refusal_is c.args.direction rules cycle c.not_reversible.result back
+    first_refusal_is c.args.direction rules cycle c.irreversible_refusal.result back
     (sym (c.loop-number.invariant.causes back) ∙
     of_half_a rules cycle n past c.requires.names within cause of_a ∙
-    ap Some (sym c.not_reversible.ensures))
+    ap Some (sym c.irreversible_refusal.ensures))
 
 pub returns-in-Err-fill_half-clause-refusal : goal.returns-in-Err-fill_half-clause-refusal
 returns-in-Err-fill_half-clause-refusal c =
@@ -88,10 +88,10 @@ returns-in-Err-fill_half-clause-refusal c =
     let of_b : rule_cause (rule_at rules (number_in (get_or cycle n past).b)) ≡ Some cause =
     subst (λ (l : List Entry). rule_cause (rule_at rules (number_in (get_or l n past).b)) ≡ Some cause)
     same is in
-    first_refusal_is c.args.direction rules cycle c.not_reversible-in-Err-fill_half.result back
+    first_refusal_is c.args.direction rules cycle c.irreversible_refusal-in-Err-fill_half.result back
     (sym (c.loop-number.invariant.causes back) ∙
     of_half_b rules cycle n past c.requires.names within cause of_a of_b ∙
-    ap Some (sym c.not_reversible-in-Err-fill_half.ensures))
+    ap Some (sym c.irreversible_refusal-in-Err-fill_half.ensures))
 
 pub loop-number-preserved : goal.loop-number-preserved
 loop-number-preserved c =

@@ -17,6 +17,6 @@ invariant_of-self-in-Ok c =
           (kept_as k.limit found.rules cycle found.position found.colours) c.args.saved
           found.planes.side c.self.invariant.0 is.texts is.accepted is.planes.side is.rules is.named
           is.position is.colours is.numbered,
-      subst (λ o. AreTablesIf o found.rules cycle c.spoil.new.self.entries)
-          (sym c.spoil.ensures.filled) tt,
+      subst (λ o. AreTablesIf o found.rules cycle c.invalidate.new.self.entries)
+          (sym c.invalidate.ensures.filled) tt,
     )

@@ -17,5 +17,5 @@ invariant_of-self c =
           (kept_as k.limit k.rules cycle 0 k.colours) (Cycle entries) c.self.invariant.0 tt
           (after-cycle some_planes k.limit k.rules old k.position k.colours entries cycle
           (sym c.in-Ok.ensures.refusal) c.in-Ok.ensures.named) c.in-Ok.ensures.numbered,
-      subst (λ o. AreTablesIf o k.rules cycle c.spoil.new.self.entries) (sym c.spoil.ensures.filled) tt,
+      subst (λ o. AreTablesIf o k.rules cycle c.invalidate.new.self.entries) (sym c.invalidate.ensures.filled) tt,
     )

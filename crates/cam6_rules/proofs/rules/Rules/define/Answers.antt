@@ -16,7 +16,7 @@ use Rattle.cam6_rules.proofs.rules.Rules.define.Goals as goal
 
 -- what the trial of the text said
 verdict : (c : goal.In_ok-put-in-Ok) → IsVerdict c.args.wiring c.args.text (Ok c.in-Ok.rule)
-verdict c = subst (IsVerdict c.args.wiring c.args.text) c.in-Ok.is c.tried_rule.ensures.verdict
+verdict c = subst (IsVerdict c.args.wiring c.args.text) c.in-Ok.is c.compile_rule.ensures.verdict
 
 -- the rule that is put
 abbrev new : (c : goal.In_ok-put-in-Ok) → Rule
@@ -45,7 +45,7 @@ invariant_of-self-in-Ok c =
 
 pub returns-in_err-put-in-Ok-clause-memory : goal.returns-in_err-put-in-Ok-clause-memory
 returns-in_err-put-in-Ok-clause-memory c = λ none same.
-    let verdict = subst (IsVerdict c.args.wiring c.args.text) c.in-Ok.is c.tried_rule.ensures.verdict in
+    let verdict = subst (IsVerdict c.args.wiring c.args.text) c.in-Ok.is c.compile_rule.ensures.verdict in
     let rules = rules_of c.self.inside.by_name.entries in
     let kept : keeps_definition c.args.self.now (named_entries c.args.self.now c.args.cycle.now)
     c.args.name c.args.wiring c.args.text ≡ true =
@@ -78,7 +78,7 @@ returns-in-Ok-clause-tables c = λ numbered are.
     let rules = rules_of c.self.inside.by_name.entries in
     let cycle = c.args.cycle.now in
     subst (λ tables. AreTrue tables (rules_of c.put.new.rules.entries) cycle)
-    (sym c.tried_rule.ensures.scratch)
+    (sym c.compile_rule.ensures.scratch)
     (subst (λ (l : List Rule). AreTrue c.args.scratch.now l cycle) (sym (put c))
     (tables_with (new c) rules cycle c.args.scratch.now c.self.invariant.own (scratch c)
     (subst (λ (l : List Rule). AreNumbered l cycle) (sym c.self.view_is) numbered)

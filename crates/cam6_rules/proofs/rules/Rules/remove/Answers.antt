@@ -13,10 +13,10 @@ use Rattle.cam6_rules.proofs.rules.Rules.remove.Goals as goal
 
 -- the entries, which have closed up
 closed : (c : After-remove) →
-    entries_of c.closed_cycle.result
+    entries_of c.renumbered_cycle.result
     ≡ map (closed_entry c.in_ok-number.number) (entries_of c.args.cycle.now)
 closed c =
-    c.closed_cycle.ensures ∙
+    c.renumbered_cycle.ensures ∙
     ap (map (closed_entry c.in_ok-number.number)) c.entries_of-2.ensures.entries
 
 unused : (c : After-remove) →
@@ -35,7 +35,7 @@ returns-clause-named c =
     let rules = rules_of c.self.inside.by_name.entries in
     let cycle = entries_of c.args.cycle.now in
     let name = c.args.name.now in
-    ap (λ (l : List Rule). named_entries l (entries_of c.closed_cycle.result)) c.remove.ensures ∙
+    ap (λ (l : List Rule). named_entries l (entries_of c.renumbered_cycle.result)) c.remove.ensures ∙
     ap (named_entries (without_rule name rules)) (closed c) ∙
     names_closed name rules c.in_ok-number.number c.in_ok-number.ensures.number cycle (unused c) ∙
     ap (λ (l : List Rule). named_entries l cycle) c.self.view_is
@@ -45,7 +45,7 @@ returns-clause-numbered c = λ numbered.
     let rules = rules_of c.self.inside.by_name.entries in
     let cycle = entries_of c.args.cycle.now in
     let name = c.args.name.now in
-    subst (λ (l : List Rule). AreNumbered l (entries_of c.closed_cycle.result)) (sym c.remove.ensures)
+    subst (λ (l : List Rule). AreNumbered l (entries_of c.renumbered_cycle.result)) (sym c.remove.ensures)
     (subst (AreNumbered (without_rule name rules)) (sym (closed c))
     (numbered_closed name rules c.in_ok-number.number c.in_ok-number.ensures.number cycle (unused c)
     (subst (λ (l : List Rule). AreNumbered l cycle) (sym c.self.view_is) numbered)))
@@ -55,7 +55,7 @@ returns-clause-tables c = λ tables are.
     let rules = rules_of c.self.inside.by_name.entries in
     let cycle = entries_of c.args.cycle.now in
     let name = c.args.name.now in
-    subst (λ (l : List Rule). AreTrue tables l (entries_of c.closed_cycle.result))
+    subst (λ (l : List Rule). AreTrue tables l (entries_of c.renumbered_cycle.result))
     (sym c.remove.ensures)
     (subst (AreTrue tables (without_rule name rules)) (sym (closed c))
     (tables_closed name rules c.in_ok-number.number c.in_ok-number.ensures.number cycle tables

@@ -1,6 +1,6 @@
 use Rattle.std.proofs.Common.{◌≡◌, map, take}
 use Rattle.cam6_rules.specs.Internal.Numbered.{closed_entry}
-use Rattle.cam6_rules.proofs.cycles.closed_cycle.Given as goal
+use Rattle.cam6_rules.proofs.cycles.renumbered_cycle.Given as goal
 
 abbrev pub invariant-loop-entry : goal.invariant-loop-entry
 invariant-loop-entry l =
