@@ -3,7 +3,7 @@ use Rattle.std.proofs.Common.{◌≡◌, ◌<◌, ◌≤◌, ◌-◌, ℕ, List,
 use Rattle.cam6_table.specs.declared.codes.Instruction.{Instruction}
 use Rattle.cam6_table.specs.declared.floors.Floors.{Floors}
 use Rattle.cam6_table.specs.declared.lanes.Lanes.{Lanes}
-use Rattle.cam6_table.specs.declared.lane_stacks.Apart.{Apart}
+use Rattle.cam6_table.specs.declared.lane_stacks.NotInAllLanes.{NotInAllLanes}
 use Rattle.cam6_table.specs.declared.lane_values.TheConstants.{LANES}
 use Rattle.cam6_table.specs.declared.spans.Span.{Span}
 use Rattle.cam6_table.specs.Internal.Lanes.{Stands, IsSpanned, IsWithin, StepsIn, ActsIn, GoOn}
@@ -18,7 +18,7 @@ same_span span = record { floor = omega arith; bottom = refl; room = refl }
 
 -- lanes that keep where their stacks lie keep their span
 pub steps_of_acts : (set addresses : List ℕ) (instruction : Instruction) (span : Span)
-    (old new : Lanes) (result : Result ℕ Apart) →
+    (old new : Lanes) (result : Result ℕ NotInAllLanes) →
     ((lane : ℕ) → lane < LANES → IsIn set lane → IsSpanned span lane old.floors) →
     ActsIn set span addresses instruction old new result →
     StepsIn set addresses instruction span old span new result

@@ -10,7 +10,7 @@ ghost use Rattle.cam6_table.specs.Internal.Lanes.{IsNext, AreFound, Holds, IsSpa
 ghost use Rattle.cam6_table.specs.Internal.Lanes.{AreLeft, AreLeftAt, AreLeftWith};
 
 use crate::codes::{Instruction, Instructions};
-use crate::lane_stacks::{Apart, ROWS};
+use crate::lane_stacks::{NotInAllLanes, ROWS};
 use crate::lane_values::{LANES, LaneValues, in_all};
 use crate::lanes::Lanes;
 use crate::levels::level;
@@ -135,8 +135,8 @@ pub fn wait(places: &mut Places, set: &LaneMask, remaining: usize, top: usize)
 }
 
 /// Takes the top values off. Lanes in which the value is 0 pass `distance` instructions. If only
-/// some pass them, the others go on, and those may have to wait. Returns `Apart`, and changes
-/// nothing, if a value may not be in place.
+/// some pass them, the others go on, and those may have to wait. Returns `NotInAllLanes`, and
+/// changes nothing, if a value may not be in place.
 #[inline(always)]
 pub fn part_at_if(
     code: &Instructions,
@@ -146,7 +146,7 @@ pub fn part_at_if(
     queue: &mut LaneQueue,
     places: &mut Places,
     lanes: &mut Lanes,
-) -> Result<(), Apart>
+) -> Result<(), NotInAllLanes>
     requires some { 0 < flow.old.remaining }
     requires within { flow.old.remaining ≤ length code.now }
     requires code { length code.now ≤ max_eval_steps }
@@ -244,8 +244,8 @@ fn split_flow(
 }
 
 /// Takes an index off each stack. Each lane of the flow then waits at the case's word with this
-/// index, and the flow has no lane left. Returns `Apart`, and changes nothing, if an index may not
-/// be in place, or is `count` or more.
+/// index, and the flow has no lane left. Returns `NotInAllLanes`, and changes nothing, if an index
+/// may not be in place, or is `count` or more.
 #[inline(always)]
 pub fn part_at_case(
     code: &Instructions,
@@ -254,7 +254,7 @@ pub fn part_at_case(
     queue: &mut LaneQueue,
     places: &mut Places,
     lanes: &mut Lanes,
-) -> Result<(), Apart>
+) -> Result<(), NotInAllLanes>
     requires some { 0 < flow.old.remaining }
     requires within { flow.old.remaining ≤ length code.now }
     requires code { length code.now ≤ max_eval_steps }
@@ -294,8 +294,8 @@ pub fn part_at_case(
 
 /// Returns how many instructions are left to each lane of the set at the word of a case that its
 /// index picks. Other lanes keep `old`. `from` is how many are left at the case's first word. Adds
-/// the places of these words to `words`. Returns `Apart` if an index is `count` or more, or if the
-/// code has no such word.
+/// the places of these words to `words`. Returns `NotInAllLanes` if an index is `count` or more, or
+/// if the code has no such word.
 fn find_case_words(
     code: &Instructions,
     from: usize,
@@ -305,24 +305,24 @@ fn find_case_words(
     old: &LaneValues,
     top: usize,
     words: &mut LaneQueue,
-) -> Result<LaneValues, Apart>
+) -> Result<LaneValues, NotInAllLanes>
     requires within { from ≤ length code.now }
     requires code { length code.now ≤ max_eval_steps }
     ensures { IfOk result (AreFound code.now from count set.now indices.now old.now) }
 {
     let last = usize::from(greatest_in(set, indices));
     if last >= count {
-        return Err(Apart);
+        return Err(NotInAllLanes);
     }
     let mut remaining_by_lane = *old;
     let mut remaining = from;
     for index in 0..last + 1 {
         if remaining == 0 {
-            return Err(Apart);
+            return Err(NotInAllLanes);
         }
         remaining -= 1;
         let Instruction::CaseWord { length, .. } = code.before(remaining) else {
-            return Err(Apart);
+            return Err(NotInAllLanes);
         };
         let those = those_with(set, indices, index as u16);
         if !is_none(&those) {

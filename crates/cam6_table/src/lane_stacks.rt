@@ -16,9 +16,10 @@ use crate::spans::Span;
 use crate::stacks::Stack;
 use cam6_forth::StackWord;
 
-/// The lanes can't go on together. Nothing was done.
+/// The lanes of a set can't go on together: an instruction can't be done in all of them, or they can
+/// part at it. Nothing was done.
 #[derive(Clone, Copy, Debug, PartialEq, Eq)]
-pub struct Apart;
+pub struct NotInAllLanes;
 
 /// Rows of values. A stack of 32 can begin at any of the first 33.
 pub const ROWS: usize = 64;
@@ -70,10 +71,10 @@ impl Stacks {
         }
     }
 
-    /// Returns `Apart` if fewer than `count` rows lie between the span's floor and the top. From
-    /// the floor on, all values of the lanes are in place.
+    /// Returns `NotInAllLanes` if fewer than `count` rows lie between the span's floor and the top.
+    /// From the floor on, all values of the lanes are in place.
     #[inline(always)]
-    pub fn need_values(&self, span: Span, count: usize) -> Result<(), Apart>
+    pub fn need_values(&self, span: Span, count: usize) -> Result<(), NotInAllLanes>
         requires few { count ≤ ROWS }
         requires holds { Holds span self.now.len }
         ensures { IfOk result (λ _. count + span.floor ≤ self.now.len) }
@@ -81,19 +82,19 @@ impl Stacks {
         if count + span.floor <= self.len {
             Ok(())
         } else {
-            Err(Apart)
+            Err(NotInAllLanes)
         }
     }
 
-    /// Returns `Apart` if, by the span, a lane's stack may have no room for one more value.
+    /// Returns `NotInAllLanes` if, by the span, a lane's stack may have no room for one more value.
     #[inline(always)]
-    fn need_room(&self, span: Span) -> Result<(), Apart>
+    fn need_room(&self, span: Span) -> Result<(), NotInAllLanes>
         ensures { IfOk result (λ _. self.now.len < span.room) }
     {
         if self.len < span.room {
             Ok(())
         } else {
-            Err(Apart)
+            Err(NotInAllLanes)
         }
     }
 
@@ -182,10 +183,15 @@ impl Stacks {
         }
     }
 
-    /// Pushes a value in each lane of a set. Returns `Apart`, and changes nothing, if by the span a
-    /// stack may have no room.
+    /// Pushes a value in each lane of a set. Returns `NotInAllLanes`, and changes nothing, if by
+    /// the span a stack may have no room.
     #[inline(always)]
-    pub fn push(&mut self, set: &LaneSet, span: Span, values: &LaneValues) -> Result<(), Apart>
+    pub fn push(
+        &mut self,
+        set: &LaneSet,
+        span: Span,
+        values: &LaneValues,
+    ) -> Result<(), NotInAllLanes>
         requires holds { Holds span self.old.len }
         ensures room { OnOk result (self.old.len < span.room) }
         ensures ok { OnOk result (Pushes set.now.mask values.now self.old self.new) }
@@ -199,10 +205,10 @@ impl Stacks {
         Ok(())
     }
 
-    /// Does a stack word in all lanes of a set. Returns `Apart`, and changes nothing, if by the
-    /// span a stack may lack a value or room. So it does if the word would stop in a lane of the
-    /// set.
-    pub fn apply(&mut self, set: &LaneSet, span: Span, word: StackWord) -> Result<(), Apart>
+    /// Does a stack word in all lanes of a set. Returns `NotInAllLanes`, and changes nothing, if by
+    /// the span a stack may lack a value or room. So it does if the word would stop in a lane of
+    /// the set.
+    pub fn apply(&mut self, set: &LaneSet, span: Span, word: StackWord) -> Result<(), NotInAllLanes>
         requires holds { Holds span self.old.len }
         ensures { LeavesIn set.now.mask span word self.old self.new result }
     {
@@ -225,9 +231,9 @@ impl Stacks {
         }
     }
 
-    /// Pushes a copy of each lane's top value. Returns `Apart`, and changes nothing, if by the span
-    /// a stack may lack a value or room.
-    fn dup(&mut self, set: &LaneSet, span: Span) -> Result<(), Apart>
+    /// Pushes a copy of each lane's top value. Returns `NotInAllLanes`, and changes nothing, if by
+    /// the span a stack may lack a value or room.
+    fn dup(&mut self, set: &LaneSet, span: Span) -> Result<(), NotInAllLanes>
         requires holds { Holds span self.old.len }
         ensures { LeavesIn set.now.mask span StackWord.Dup self.old self.new result }
     {
@@ -238,9 +244,9 @@ impl Stacks {
         Ok(())
     }
 
-    /// Takes the top values off. Returns `Apart`, and changes nothing, if by the span a stack may
-    /// lack a value. No row changes, so the set isn't needed.
-    fn drop_top(&mut self, _set: &LaneSet, span: Span) -> Result<(), Apart>
+    /// Takes the top values off. Returns `NotInAllLanes`, and changes nothing, if by the span a
+    /// stack may lack a value. No row changes, so the set isn't needed.
+    fn drop_top(&mut self, _set: &LaneSet, span: Span) -> Result<(), NotInAllLanes>
         requires holds { Holds span self.old.len }
         ensures { LeavesIn _set.now.mask span StackWord.Drop self.old self.new result }
     {
@@ -249,9 +255,9 @@ impl Stacks {
         Ok(())
     }
 
-    /// Exchanges each lane's top value with the one below it. Returns `Apart`, and changes nothing,
-    /// if by the span a stack may lack a value.
-    fn swap(&mut self, set: &LaneSet, span: Span) -> Result<(), Apart>
+    /// Exchanges each lane's top value with the one below it. Returns `NotInAllLanes`, and changes
+    /// nothing, if by the span a stack may lack a value.
+    fn swap(&mut self, set: &LaneSet, span: Span) -> Result<(), NotInAllLanes>
         requires holds { Holds span self.old.len }
         ensures { LeavesIn set.now.mask span StackWord.Swap self.old self.new result }
     {
@@ -264,9 +270,9 @@ impl Stacks {
         Ok(())
     }
 
-    /// Pushes a copy of each lane's value below the top one. Returns `Apart`, and changes nothing,
-    /// if by the span a stack may lack a value or room.
-    fn over(&mut self, set: &LaneSet, span: Span) -> Result<(), Apart>
+    /// Pushes a copy of each lane's value below the top one. Returns `NotInAllLanes`, and changes
+    /// nothing, if by the span a stack may lack a value or room.
+    fn over(&mut self, set: &LaneSet, span: Span) -> Result<(), NotInAllLanes>
         requires holds { Holds span self.old.len }
         ensures { LeavesIn set.now.mask span StackWord.Over self.old self.new result }
     {
@@ -277,9 +283,9 @@ impl Stacks {
         Ok(())
     }
 
-    /// Moves each lane's third value to the top, over the two that were above it. Returns `Apart`,
-    /// and changes nothing, if by the span a stack may lack a value.
-    fn rot(&mut self, set: &LaneSet, span: Span) -> Result<(), Apart>
+    /// Moves each lane's third value to the top, over the two that were above it. Returns
+    /// `NotInAllLanes`, and changes nothing, if by the span a stack may lack a value.
+    fn rot(&mut self, set: &LaneSet, span: Span) -> Result<(), NotInAllLanes>
         requires holds { Holds span self.old.len }
         ensures { LeavesIn set.now.mask span StackWord.Rot self.old self.new result }
     {
@@ -294,9 +300,9 @@ impl Stacks {
         Ok(())
     }
 
-    /// Replaces each lane's top value by 1 if it is 0, and else by 0. Returns `Apart`, and changes
-    /// nothing, if by the span a stack may lack a value.
-    fn zero_equals(&mut self, set: &LaneSet, span: Span) -> Result<(), Apart>
+    /// Replaces each lane's top value by 1 if it is 0, and else by 0. Returns `NotInAllLanes`, and
+    /// changes nothing, if by the span a stack may lack a value.
+    fn zero_equals(&mut self, set: &LaneSet, span: Span) -> Result<(), NotInAllLanes>
         requires holds { Holds span self.old.len }
         ensures { LeavesIn set.now.mask span StackWord.IsZero self.old self.new result }
     {
@@ -307,11 +313,11 @@ impl Stacks {
         Ok(())
     }
 
-    /// Does a word that makes one value of the top two, in all lanes of a set. Returns `Apart`, and
-    /// changes nothing, if by the span a stack may lack a value. So it does if the word would stop
-    /// in a lane of the set.
+    /// Does a word that makes one value of the top two, in all lanes of a set. Returns
+    /// `NotInAllLanes`, and changes nothing, if by the span a stack may lack a value. So it does if
+    /// the word would stop in a lane of the set.
     #[inline(always)]
-    fn apply_binary(&mut self, set: &LaneSet, span: Span, merge: Merge) -> Result<(), Apart>
+    fn apply_binary(&mut self, set: &LaneSet, span: Span, merge: Merge) -> Result<(), NotInAllLanes>
         requires holds { Holds span self.old.len }
         ensures { LeavesIn set.now.mask span (stack_word merge) self.old self.new result }
     {
@@ -319,7 +325,7 @@ impl Stacks {
         let b = self.at_depth(1);
         let a = self.at_depth(2);
         if !merge.fits_in(set, a, b) {
-            return Err(Apart);
+            return Err(NotInAllLanes);
         }
         let left = merge.of_all(a, b);
         self.len -= 2;

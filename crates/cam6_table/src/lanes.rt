@@ -9,7 +9,7 @@ ghost use Rattle.cam6_table.specs.Internal.Lanes.{Stands, Holds, IsSpanned};
 ghost use Rattle.cam6_table.specs.Internal.Sets.{IsIn};
 
 use crate::floors::{Floors, all_low};
-use crate::lane_stacks::{Apart, Stacks};
+use crate::lane_stacks::{NotInAllLanes, Stacks};
 use crate::lane_values::{LANES, LaneValues, halves, in_all, lowest_bits};
 use crate::outputs::{State, entry_of};
 use crate::sets::LaneSet;
@@ -94,10 +94,15 @@ pub fn entry_at_end(lanes: &Lanes, lane: usize, address: u16) -> u8
 }
 
 /// Does an output word in all lanes of a set: takes the top values off, and notes their bits as
-/// written to the target planes. Returns `Apart`, and changes nothing, if by the span a stack may
-/// lack a value.
+/// written to the target planes. Returns `NotInAllLanes`, and changes nothing, if by the span a
+/// stack may lack a value.
 #[inline(always)]
-pub fn write_in(lanes: &mut Lanes, set: &LaneSet, span: Span, target: Target) -> Result<(), Apart>
+pub fn write_in(
+    lanes: &mut Lanes,
+    set: &LaneSet,
+    span: Span,
+    target: Target,
+) -> Result<(), NotInAllLanes>
     requires holds { Holds span lanes.old.stacks.len }
     requires floors { (lane : ℕ) → lane < LANES → IsIn set.now.mask lane →
         IsSpanned span lane lanes.old.floors }

@@ -10,7 +10,7 @@ ghost use Rattle.cam6_table.specs.Internal.Sets.{IsIn, IsOut};
 
 use crate::codes::Instructions;
 use crate::flows::{Flow, Places, new_flow, others_at, resume, wait};
-use crate::lane_stacks::{Apart, ROWS};
+use crate::lane_stacks::{NotInAllLanes, ROWS};
 use crate::lanes::Lanes;
 use crate::levels::{fill_gaps, level, lower_stacks};
 use crate::sets::{IN, least_in, put_in};
@@ -23,12 +23,12 @@ const DUG: usize = 5;
 /// No word reads more values than this.
 const READ: usize = 3;
 
-/// Decides how a flow goes on after it stopped. `ran` is how its run ended. After `Apart`, settles
-/// the flow. Otherwise it takes along the lanes that are next in the queue, or waits while they go
-/// on. Returns whether there is a flow that can go on.
+/// Decides how a flow goes on after it stopped. `ran` is how its run ended. After `NotInAllLanes`,
+/// settles the flow. Otherwise it takes along the lanes that are next in the queue, or waits while
+/// they go on. Returns whether there is a flow that can go on.
 pub fn go_on(
     code: &Instructions,
-    ran: Result<(), Apart>,
+    ran: Result<(), NotInAllLanes>,
     flow: &mut Flow,
     queue: &mut LaneQueue,
     places: &mut Places,

@@ -7,7 +7,7 @@ ghost use Rattle.cam6_table.specs.Internal.Lanes.{ActsIn, StepsIn, GoOn, Holds, 
 ghost use Rattle.cam6_table.specs.Internal.Sets.{IsIn};
 
 use crate::codes::{Instruction, Instructions};
-use crate::lane_stacks::Apart;
+use crate::lane_stacks::NotInAllLanes;
 use crate::lane_values::{LaneValues, bits_of, in_all};
 use crate::lanes::{Lanes, write_in};
 use crate::sets::{LaneSet, limited};
@@ -42,15 +42,15 @@ pub fn run_straight(
     while remaining > stops_at {
         match step(code.before(remaining - 1), addresses, set, span, lanes) {
             Ok(passed) => remaining = (remaining - 1).saturating_sub(passed),
-            Err(Apart) => return remaining,
+            Err(NotInAllLanes) => return remaining,
         }
     }
     remaining
 }
 
 /// Does one instruction in the lanes of a set, and narrows the span to what holds after it. Returns
-/// how many instructions all lanes pass then. Returns `Apart`, with nothing done, if lanes can part
-/// there or it can't be done in all.
+/// how many instructions all lanes pass then. Returns `NotInAllLanes`, with nothing done, if lanes
+/// can part there or it can't be done in all.
 #[inline(always)]
 fn step(
     instruction: Instruction,
@@ -58,7 +58,7 @@ fn step(
     set: &LaneSet,
     span: &mut Span,
     lanes: &mut Lanes,
-) -> Result<usize, Apart>
+) -> Result<usize, NotInAllLanes>
     requires holds { Holds span.old lanes.old.stacks.len }
     requires floors { (lane : ℕ) → lane < LANES → IsIn set.now.mask lane →
         IsSpanned span.old lane lanes.old.floors }
@@ -75,8 +75,8 @@ fn step(
 }
 
 /// Takes the top values off, even if they aren't in place. Returns 0, since no instruction is
-/// passed. Returns `Apart`, with nothing done, if by the span a stack may be empty.
-fn drop_top(set: &LaneSet, span: &mut Span, lanes: &mut Lanes) -> Result<usize, Apart>
+/// passed. Returns `NotInAllLanes`, with nothing done, if by the span a stack may be empty.
+fn drop_top(set: &LaneSet, span: &mut Span, lanes: &mut Lanes) -> Result<usize, NotInAllLanes>
     requires holds { Holds span.old lanes.old.stacks.len }
     requires floors { (lane : ℕ) → lane < LANES → IsIn set.now.mask lane →
         IsSpanned span.old lane lanes.old.floors }
@@ -85,7 +85,7 @@ fn drop_top(set: &LaneSet, span: &mut Span, lanes: &mut Lanes) -> Result<usize, 
 {
     let len = lanes.stacks.len;
     if len <= span.bottom {
-        return Err(Apart);
+        return Err(NotInAllLanes);
     }
     lanes.stacks.len = len - 1;
     if len <= span.floor {
@@ -97,8 +97,8 @@ fn drop_top(set: &LaneSet, span: &mut Span, lanes: &mut Lanes) -> Result<usize, 
 }
 
 /// Does one instruction in the lanes of a set, whose values must be in place by the span. Returns
-/// how many instructions all lanes pass then. Returns `Apart`, with nothing done, if lanes can part
-/// there or it can't be done in all.
+/// how many instructions all lanes pass then. Returns `NotInAllLanes`, with nothing done, if lanes
+/// can part there or it can't be done in all.
 #[inline(always)]
 fn act_in(
     instruction: Instruction,
@@ -106,7 +106,7 @@ fn act_in(
     set: &LaneSet,
     span: Span,
     lanes: &mut Lanes,
-) -> Result<usize, Apart>
+) -> Result<usize, NotInAllLanes>
     requires holds { Holds span lanes.old.stacks.len }
     requires floors { (lane : ℕ) → lane < LANES → IsIn set.now.mask lane →
         IsSpanned span lane lanes.old.floors }
@@ -119,7 +119,7 @@ fn act_in(
         Instruction::Output(target) => write_in(lanes, set, span, target)?,
         Instruction::Skip(distance) => return Ok(distance),
         Instruction::CaseWord { after, .. } => return Ok(after),
-        Instruction::SkipIfZero(_) | Instruction::Case(_) => return Err(Apart),
+        Instruction::SkipIfZero(_) | Instruction::Case(_) => return Err(NotInAllLanes),
     }
     Ok(0)
 }

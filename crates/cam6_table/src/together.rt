@@ -8,7 +8,7 @@ ghost use Rattle.cam6_table.specs.Internal.Sets.{IsIn};
 
 use crate::codes::{Instruction, Instructions};
 use crate::flows::{Flow, Places, part_at_case, part_at_if, resume, wait};
-use crate::lane_stacks::Apart;
+use crate::lane_stacks::NotInAllLanes;
 use crate::lane_values::LaneValues;
 use crate::lanes::Lanes;
 use crate::meeting::go_on;
@@ -68,7 +68,7 @@ fn run_flows(
 }
 
 /// Runs the code in the lanes of a flow up to where others wait, while `steps` are left. Returns
-/// `Apart` at an instruction that can't be done in all of its lanes.
+/// `NotInAllLanes` at an instruction that can't be done in all of its lanes.
 fn run_flow(
     code: &Instructions,
     addresses: &LaneValues,
@@ -77,7 +77,7 @@ fn run_flow(
     places: &mut Places,
     lanes: &mut Lanes,
     steps: &mut usize,
-) -> Result<(), Apart>
+) -> Result<(), NotInAllLanes>
     requires code { length code.now ≤ max_eval_steps }
     requires left { AreLeftWith addresses.now code.now flow.old places.old lanes.old }
     ensures left { AreLeftWith addresses.now code.now flow.new places.new lanes.new }
@@ -91,7 +91,8 @@ fn run_flow(
 }
 
 /// Does instructions in the lanes of a flow up to where others wait. Or does them up to one at
-/// which lanes can part, and that one too. Returns `Apart` at one that can't be done in all lanes.
+/// which lanes can part, and that one too. Returns `NotInAllLanes` at one that can't be done in all
+/// lanes.
 #[inline(always)]
 fn advance(
     code: &Instructions,
@@ -100,7 +101,7 @@ fn advance(
     queue: &mut LaneQueue,
     places: &mut Places,
     lanes: &mut Lanes,
-) -> Result<(), Apart>
+) -> Result<(), NotInAllLanes>
     requires code { length code.now ≤ max_eval_steps }
     requires some { flow.old.stops_at < flow.old.remaining }
     requires left { AreLeftWith addresses.now code.now flow.old places.old lanes.old }
@@ -141,7 +142,7 @@ fn go_straight(code: &Instructions, addresses: &LaneValues, flow: &mut Flow, lan
     flow.span = span;
 }
 
-/// Does an instruction at which the lanes of a flow can part. Returns `Apart` if it is no such
+/// Does an instruction at which the lanes of a flow can part. Returns `NotInAllLanes` if it is no such
 /// instruction, or can't be done in all of them.
 #[inline(always)]
 fn diverge(
@@ -151,7 +152,7 @@ fn diverge(
     queue: &mut LaneQueue,
     places: &mut Places,
     lanes: &mut Lanes,
-) -> Result<(), Apart>
+) -> Result<(), NotInAllLanes>
     requires code { length code.now ≤ max_eval_steps }
     requires some { 0 < flow.old.remaining }
     requires left { AreLeftWith addresses.now code.now flow.old places.old lanes.old }
@@ -163,6 +164,6 @@ fn diverge(
             part_at_if(code, addresses, distance, flow, queue, places, lanes)
         }
         Instruction::Case(count) => part_at_case(code, count, flow, queue, places, lanes),
-        _ => Err(Apart),
+        _ => Err(NotInAllLanes),
     }
 }

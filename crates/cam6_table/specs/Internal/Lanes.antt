@@ -13,7 +13,7 @@ use Rattle.cam6_table.specs.declared.faults.RuleFault.{RuleFault}
 use Rattle.cam6_table.specs.declared.floors.Floors.{Floors}
 use Rattle.cam6_table.specs.declared.flows.Flow.{Flow}
 use Rattle.cam6_table.specs.declared.flows.Places.{Places}
-use Rattle.cam6_table.specs.declared.lane_stacks.Apart.{Apart}
+use Rattle.cam6_table.specs.declared.lane_stacks.NotInAllLanes.{NotInAllLanes}
 use Rattle.cam6_table.specs.declared.lanes.Lanes.{Lanes}
 use Rattle.cam6_table.specs.declared.spans.Span.{Span}
 use Rattle.cam6_table.specs.declared.lane_stacks.Stacks.{Stacks}
@@ -126,7 +126,7 @@ StayBelow limit old new = (lane row : ℕ) → row < limit →
 
 -- in each lane of a set a stack word left the new stack, or nothing was done; the other lanes stay
 pub record LeavesIn (set : List ℕ) (span : Span) (said : StackWord) (old new : Stacks)
-    (result : Result (Unit {0}) Apart) : Type 0 where
+    (result : Result (Unit {0}) NotInAllLanes) : Type 0 where
   pub holds : Holds span new.len
   pub each : MatchResult result
       (λ _. (lane : ℕ) → lane < LANES → IsIn set lane → (floor : ℕ) → IsFor span floor →
@@ -138,7 +138,7 @@ pub record LeavesIn (set : List ℕ) (span : Span) (said : StackWord) (old new :
 -- in each lane of a set an output word made the new state, or nothing was done; the other lanes
 -- stay
 pub record WritesIn (set : List ℕ) (span : Span) (target : Target) (old new : Lanes)
-    (result : Result (Unit {0}) Apart) : Type 0 where
+    (result : Result (Unit {0}) NotInAllLanes) : Type 0 where
   pub holds : Holds span new.stacks.len
   pub floors : new.floors ≡ old.floors
   pub each : MatchResult result
@@ -151,7 +151,7 @@ pub record WritesIn (set : List ℕ) (span : Span) (target : Target) (old new : 
 -- in each lane of a set an instruction made the new state, and the code passes so many
 -- instructions, or nothing was done; the other lanes stay
 pub record ActsIn (set : List ℕ) (span : Span) (addresses : List ℕ) (instruction : Instruction)
-    (old new : Lanes) (result : Result ℕ Apart) : Type 0 where
+    (old new : Lanes) (result : Result ℕ NotInAllLanes) : Type 0 where
   pub holds : Holds span new.stacks.len
   pub floors : new.floors ≡ old.floors
   pub each : MatchResult result
@@ -171,7 +171,7 @@ pub record IsUntouched (lanes new : Lanes) (lane : ℕ) : Type 0 where
 -- in each lane of a set an instruction made the new state, and the code passes so many
 -- instructions, or nothing was done; the span may be narrower then, and the other lanes stay
 pub record StepsIn (set addresses : List ℕ) (instruction : Instruction) (span : Span) (old : Lanes)
-    (after : Span) (new : Lanes) (result : Result ℕ Apart) : Type 0 where
+    (after : Span) (new : Lanes) (result : Result ℕ NotInAllLanes) : Type 0 where
   pub holds : Holds after new.stacks.len
   pub narrows : IsWithin after span
   pub floors : (lane : ℕ) → lane < LANES → IsIn set lane → IsSpanned after lane new.floors

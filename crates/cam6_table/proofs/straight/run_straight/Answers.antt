@@ -1,5 +1,5 @@
 use Rattle.std.proofs.Common.{arith, subst, Result, ℕ}
-use Rattle.cam6_table.specs.declared.lane_stacks.Apart.{Apart}
+use Rattle.cam6_table.specs.declared.lane_stacks.NotInAllLanes.{NotInAllLanes}
 use Rattle.cam6_table.specs.Internal.Lanes.{StepsIn}
 use Rattle.cam6_table.proofs.StepByStep.{one_more, within_then}
 use Rattle.cam6_table.proofs.straight.run_straight.Goals as goal
@@ -20,7 +20,7 @@ loop-remaining-preserved c =
           c.args.lanes.now l.remaining l.lanes c.before-in-loop-remaining.result l.span c.step.new.span
           c.step.new.lanes c.in-Ok.passed c.saturating_sub-remaining.result (omega arith) (omega arith)
           c.before-in-loop-remaining.ensures to l.invariant.left
-          (subst (λ (r : Result ℕ Apart). StepsIn c.args.set.now.mask c.args.addresses.now
+          (subst (λ (r : Result ℕ NotInAllLanes). StepsIn c.args.set.now.mask c.args.addresses.now
           c.before-in-loop-remaining.result l.span l.lanes c.step.new.span c.step.new.lanes r)
           c.in-Ok.is c.step.ensures);
     }
