@@ -8,8 +8,8 @@
 //! returns `Next::Whole`, with the planes after the step. The scratch may hold anything before a band
 //! and after it. `MidStep::band` has scratch of its own, and promises the same. `move_into` moves a
 //! step, with all that is saved of it, to another image. `abandon` gives it up. `tables_of_step`
-//! takes tables that lie as a cycle needs them. It returns those that a step from a position uses, and the position
-//! after it (`specs/AtPosition.antt`). The law: each half uses the table that the cycle needs for this
+//! takes tables that lie as a cycle needs them. It returns those that a step from a position uses,
+//! and the position after it (`specs/AtPosition.antt`). The law: each half uses the table that the cycle needs for this
 //! use of its rule. No function allocates.
 //!
 //! So, take planes of side 256, and a table of half A by which a cell becomes what its northern

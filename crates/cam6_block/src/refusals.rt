@@ -24,7 +24,7 @@ pub enum NotReversible {
 impl NotReversible {
     ghost use Rattle.cam6_block.specs.Refusals.{cause_number};
 
-    /// The fault's number in replies, which is the same for every cause.
+    /// Returns the fault's number, as replies have it. It is the same for every cause.
     pub fn number(self) -> u8
         ensures { result ≡ cause_number self }
     {

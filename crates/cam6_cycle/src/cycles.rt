@@ -64,7 +64,7 @@ impl Cycle {
         Cycle { entries }
     }
 
-    /// The entries in their order, from position 0 on: at least 1, and at most `MAX_ENTRIES`.
+    /// Lends the entries in their order, from position 0 on: at least 1, and at most `MAX_ENTRIES`.
     pub fn entries(&self) -> &[Entry]
         ensures entries { result.now ≡ self.now }
         ensures some { 0 < length result.now }

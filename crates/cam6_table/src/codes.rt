@@ -55,7 +55,7 @@ impl Instructions {
         }
     }
 
-    /// How many instructions there are, which is how many are left at the start.
+    /// Returns how many instructions there are. As many are left where the code starts.
     pub fn len(&self) -> usize
         ensures { result ≡ length self.now }
     {

@@ -143,7 +143,7 @@ pub fn at_head(word: Option<usize>, length: usize, after: usize) -> Next
     }
 }
 
-/// The bit of an address line, 0 or 1. It is 0 for a line above 15.
+/// Returns the bit that an address has on a line, 0 or 1. It is 0 for a line above 15.
 pub fn bit_of(address: u16, line: u8) -> u16
     ensures { result ≡ bit_number (shown address line) }
 {

@@ -16,7 +16,7 @@ pub enum RuleFault {
 }
 
 impl RuleFault {
-    /// The fault's number in replies.
+    /// Returns the fault's number, as replies have it.
     pub fn number(self) -> u8
         ensures { result ≡ fault_number self }
     {

@@ -16,8 +16,8 @@ use crate::spans::Span;
 use crate::stacks::Stack;
 use cam6_forth::StackWord;
 
-/// The lanes of a set can't go on together: an instruction can't be done in all of them, or they can
-/// part at it. Nothing was done.
+/// The lanes of a set can't go on together: an instruction can't be done in all of them, or they
+/// can part at it. Nothing was done.
 #[derive(Clone, Copy, Debug, PartialEq, Eq)]
 pub struct NotInAllLanes;
 

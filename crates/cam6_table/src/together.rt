@@ -142,8 +142,8 @@ fn go_straight(code: &Instructions, addresses: &LaneValues, flow: &mut Flow, lan
     flow.span = span;
 }
 
-/// Does an instruction at which the lanes of a flow can part. Returns `NotInAllLanes` if it is no such
-/// instruction, or can't be done in all of them.
+/// Does an instruction at which the lanes of a flow can part. Returns `NotInAllLanes` if it is no
+/// such instruction, or can't be done in all lanes of the flow.
 #[inline(always)]
 fn diverge(
     code: &Instructions,
