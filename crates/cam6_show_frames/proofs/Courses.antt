@@ -6,7 +6,7 @@ use Rattle.std.proofs.KnownBytes.{Appends-nil, Keeps-refl}
 use Rattle.std.proofs.lemmas.Grind.{flat_map-append}
 use Rattle.std.specs.Option.{option_to_list}
 use Rattle.std.specs.Io.KnownBytes.{Keeps, Appends}
-use Rattle.cam6_show_frames.specs.declared.replies.Said.{Said}
+use Rattle.cam6_show_frames.specs.declared.replies.ReplyCells.{ReplyCells}
 use Rattle.cam6_show_frames.specs.Lines.{lines}
 use Rattle.cam6_show_frames.specs.Replies.{said}
 use Rattle.cam6_show_frames.specs.Run.{Taken, taken}
@@ -30,13 +30,13 @@ before_later (Some frame) later = (refl, refl)
 
 module _ (n : ℕ) (rows : List (List ℕ)) (later : ℕ → List (List ℕ) → Course) where
   -- a line that is taken
-  on_step : (s : Option Said) (t : Taken) → option_and_then (taken rows) s ≡ Some t
+  on_step : (s : Option ReplyCells) (t : Taken) → option_and_then (taken rows) s ≡ Some t
       → on_said n rows s later ≡ after_frame t.frame (later n t.rows)
   on_step None t is = let never : ⊥ = cc in absurd never
   on_step (Some s) t is = ap (λ o. on_taken n o later) is
 
   -- the frames of a line come first
-  frames_first : (s : Option Said)
+  frames_first : (s : Option ReplyCells)
       → (more : List (List (List ℕ)))
       × ((on_said n rows s later).frames ≡ frames_of (option_and_then (taken rows) s) ++ more)
   frames_first None = ([], refl)

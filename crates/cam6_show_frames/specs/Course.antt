@@ -1,6 +1,6 @@
 -- The frames that lines of replies show, and how they end.
 use Rattle.std.specs.Prelude.{ℕ, ◌+◌, List, [], ◌∷◌, Option, Some, None}
-use Rattle.cam6_show_frames.specs.declared.replies.Said.{Said}
+use Rattle.cam6_show_frames.specs.declared.replies.ReplyCells.{ReplyCells}
 use Rattle.cam6_show_frames.specs.Replies.{said}
 use Rattle.cam6_show_frames.specs.Run.{Taken, taken}
 
@@ -37,7 +37,7 @@ on_taken n None later = over (breaks_off n)
 on_taken n (Some t) later = after_frame t.frame (later n t.rows)
 
 -- what line n says, and then what comes later; or it is no reply
-abbrev pub on_said : ℕ → List (List ℕ) → Option Said → (ℕ → List (List ℕ) → Course) → Course
+abbrev pub on_said : ℕ → List (List ℕ) → Option ReplyCells → (ℕ → List (List ℕ) → Course) → Course
 on_said n rows None later = over (no_reply n)
 on_said n rows (Some s) later = on_taken n (taken rows s) later
 

@@ -12,8 +12,8 @@ use Rattle.serde_json.specs.Read.{read}
 use Rattle.cam6_planes.specs.Side.{side_number, side_of}
 use Rattle.cam6_planes.specs.Digits.{bits_of_digits}
 use Rattle.cam6_planes.specs.Row.{bit_number, byte_column}
-use Rattle.cam6_show_frames.specs.declared.replies.Said.{Said}
-use Rattle.cam6_show_frames.specs.declared.replies.Said.TheVariants.{Colours, Plane, Other}
+use Rattle.cam6_show_frames.specs.declared.replies.ReplyCells.{ReplyCells}
+use Rattle.cam6_show_frames.specs.declared.replies.ReplyCells.TheVariants.{Colours, Plane, Other}
 
 -- the text at a key
 abbrev pub text_at : List ℕ → Data → Option (List ℕ)
@@ -60,26 +60,26 @@ frame_of_rows rows =
     if is_some (side_of (length rows)) && are_long (length rows) rows then Some rows else None
 
 -- {"colours":"digits","ok":"colours"}
-abbrev pub colours_in : Data → Option Said
+abbrev pub colours_in : Data → Option ReplyCells
 colours_in d =
     option_map Colours (option_and_then colours_of_text (text_at (codes "colours") d))
 
 -- {"ok":"plane","rows":[texts]}
-abbrev pub plane_in : Data → Option Said
+abbrev pub plane_in : Data → Option ReplyCells
 plane_in d =
     option_map Plane
     (option_and_then frame_of_rows
     (option_and_then rows_of_texts (option_and_then as_array (get (codes "rows") d))))
 
 -- by the word at the key ok, if there is one
-abbrev pub by_word : Option (List ℕ) → Data → Option Said
+abbrev pub by_word : Option (List ℕ) → Data → Option ReplyCells
 by_word None d = Some Other
 by_word (Some word) d =
     if bytes_eq word (codes "colours") then colours_in d
     else if bytes_eq word (codes "plane") then plane_in d else Some Other
 
 -- what an object says; anything else is no reply
-abbrev pub reply_in : Data → Option Said
+abbrev pub reply_in : Data → Option ReplyCells
 reply_in d = if is_some (as_object d) then by_word (text_at (codes "ok") d) d else None
 
 -- the first if there is one, or else the second
@@ -89,9 +89,9 @@ get_or_itself (Some inner) d = inner
 
 -- the outcome of an event says what its reply says, if it has one:
 -- {"ok":"collect","reply":{..}}
-abbrev pub said_in : Data → Option Said
+abbrev pub said_in : Data → Option ReplyCells
 said_in d = reply_in (get_or_itself (get (codes "reply") d) d)
 
 -- what a line says, if it is a reply
-unfoldable pub said : List ℕ → Option Said
+unfoldable pub said : List ℕ → Option ReplyCells
 said line = if is_utf8 line then option_and_then said_in (read line) else None

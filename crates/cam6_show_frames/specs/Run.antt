@@ -1,8 +1,8 @@
 -- Rows of colours one after another, until they are a frame.
 use Rattle.std.specs.Prelude.{ℕ, List, [], ◌∷◌, ◌++◌, length, ◌==◌, if◌then◌else◌}
 use Rattle.std.specs.Prelude.{Option, Some, None, get_or}
-use Rattle.cam6_show_frames.specs.declared.replies.Said.{Said}
-use Rattle.cam6_show_frames.specs.declared.replies.Said.TheVariants.{Colours, Plane, Other}
+use Rattle.cam6_show_frames.specs.declared.replies.ReplyCells.{ReplyCells}
+use Rattle.cam6_show_frames.specs.declared.replies.ReplyCells.TheVariants.{Colours, Plane, Other}
 
 -- the rows of a frame under way, and the frame that was just completed, if one was
 pub record Taken : Type 0 where
@@ -17,7 +17,7 @@ gathered rows =
 
 -- what a reply makes of the rows under way; none, if the frame breaks off: a row has another length
 -- than those before it, or something else comes before the last row
-abbrev pub taken : List (List ℕ) → Said → Option Taken
+abbrev pub taken : List (List ℕ) → ReplyCells → Option Taken
 taken [] (Colours row) = Some (gathered (row ∷ []))
 taken [] (Plane frame) = Some (record { rows = []; frame = Some frame })
 taken [] Other = Some (record { rows = []; frame = None })

@@ -3,7 +3,7 @@ use Rattle.std.specs.Prelude.{◌≡◌, ℕ, List, [], ◌∷◌, flat_map, ⊤
 use Rattle.std.specs.Prelude.{Option, Some, None, option_and_then, Result, Ok, Err}
 use Rattle.std.specs.Option.{option_to_list}
 use Rattle.std.specs.Io.KnownBytes.{Keeps, Appends}
-use Rattle.cam6_show_frames.specs.declared.replies.Said.{Said}
+use Rattle.cam6_show_frames.specs.declared.replies.ReplyCells.{ReplyCells}
 use Rattle.cam6_show_frames.specs.Replies.{said}
 use Rattle.cam6_show_frames.specs.Run.{Taken, taken}
 use Rattle.cam6_writing.specs.Front.{WritesSome}
@@ -24,7 +24,7 @@ frames_of (Some t) = option_to_list t.frame
 
 -- the frame under way breaks off at the line
 abbrev pub BreaksAt : List ℕ → List (List ℕ) → Type 0
-BreaksAt line rows = (s : Said) × (said line ≡ Some s) × (taken rows s ≡ None)
+BreaksAt line rows = (s : ReplyCells) × (said line ≡ Some s) × (taken rows s ≡ None)
 
 -- a line is taken, or why it isn't
 abbrev pub TakesReply : List ℕ → List (List ℕ) → Result (Option (List (List ℕ))) Stop

@@ -33,7 +33,7 @@ impl Model for RowInColours {
 }
 
 impl RowInColours {
-    /// The first colours, as many as the side has columns.
+    /// Makes a row of as many columns as the side has, with the first of these colours.
     pub(crate) fn new(side: Side, colours: [u8; COLUMNS]) -> RowInColours
         requires { IsRowOf side (take (side_number side) colours) }
         ensures { result ≡ take (side_number side) colours }
@@ -41,7 +41,7 @@ impl RowInColours {
         RowInColours { side, colours }
     }
 
-    /// How many columns it has.
+    /// Returns how many columns the row has.
     pub(crate) fn columns(&self) -> usize
         ensures columns { result ≡ length self.now }
         ensures row { (side : Side) × (result ≡ side_number side) × IsRowOf side self.now }
@@ -70,7 +70,8 @@ impl Model for Frame {
 impl Frame {
     ghost use Rattle.cam6_show_frames.specs.Frame.{IsFrame};
 
-    /// The frame of these rows, from the top one on. There are as many as each has columns.
+    /// Makes the frame of these rows, from the top one on. There are as many rows as each has
+    /// columns.
     pub(crate) fn new(rows: Vec<RowInColours>) -> Frame
         requires { IsFrame rows.items }
         ensures { result ≡ rows.items }
@@ -78,7 +79,7 @@ impl Frame {
         Frame { rows }
     }
 
-    /// Returns the side: how many rows and columns it has.
+    /// Returns the frame's side: how many rows and columns it has.
     pub fn side(&self) -> Side
         ensures side { side_number result ≡ length self.now }
         ensures frame { IsFrame self.now }
@@ -97,7 +98,8 @@ impl Frame {
     }
 }
 
-/// The frame of these rows, if there are as many as each has columns, and that is one of the sides.
+/// Returns the frame of these rows. Returns `None` unless there are as many rows as each has
+/// columns, and that is the number of a side.
 pub(crate) fn frame_of_rows(rows: Vec<RowInColours>) -> Option<Frame>
     ensures { result ≡ frame_of_rows rows.items }
 {
@@ -109,7 +111,7 @@ pub(crate) fn frame_of_rows(rows: Vec<RowInColours>) -> Option<Frame>
     Some(Frame::new(rows))
 }
 
-/// Whether each row has so many columns.
+/// Returns whether each row has `columns` columns.
 fn are_long(columns: usize, rows: &[RowInColours]) -> bool
     ensures long { result ≡ are_long columns rows.now }
     ensures rows { OnTrue result (All (λ row. (length row ≡ columns)

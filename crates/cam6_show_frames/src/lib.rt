@@ -24,7 +24,7 @@ mod showing;
 mod writers;
 
 pub use frames::{Frame, RowInColours};
-pub use replies::{Said, Unsaid, read_reply};
+pub use replies::{ReplyCells, Unsaid, read_reply};
 pub use runs::{Run, Untaken};
 pub use showing::{End, Screen, Unshown, show_frames};
 pub use writers::write_bytes;

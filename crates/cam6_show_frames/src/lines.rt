@@ -18,7 +18,8 @@ pub(crate) enum Reading {
     NoMemory,
 }
 
-/// Replaces what is in the vector by the next line, without its LF. The last line may have none.
+/// Reads the next line into the vector, without its LF, in place of what is there. The last line
+/// may have no LF.
 pub(crate) fn read_line<R: BufRead>(reader: &mut R, line: &mut Vec<u8>) -> Reading
     ensures { Reads result (R.remaining reader.old) (R.remaining reader.new) line.new.items }
 {
@@ -36,7 +37,7 @@ pub(crate) fn read_line<R: BufRead>(reader: &mut R, line: &mut Vec<u8>) -> Readi
     }
 }
 
-/// Takes away the LF at the end, if there is one.
+/// Removes the LF at the end of a line, if there is one.
 fn strip_lf(line: &mut Vec<u8>)
     ensures { line.new.items ≡ strip_last 10 line.old.items }
 {

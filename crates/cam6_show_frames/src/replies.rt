@@ -15,7 +15,7 @@ use std::alloc::{AllocError, Global};
 
 /// What a reply says of cells in colours.
 #[derive(Debug, Drop)]
-pub enum Said {
+pub enum ReplyCells {
     /// A row of cells.
     Colours(RowInColours),
     /// All rows of a torus.
@@ -33,10 +33,10 @@ pub enum Unsaid {
     NoMemory,
 }
 
-/// Returns what a reply's line says of cells, which is `Other` if it says nothing of them. Returns
-/// an error if the line is no reply, or if an allocation fails.
+/// Reads the line of a reply. Returns its row of cells, its plane, or `Other` if it has neither.
+/// Returns an error if the line is no reply, or if an allocation fails.
 #[tactic(auto, using(crate::proofs::Saying::said_by_value, crate::proofs::Saying::not_empty))]
-pub fn read_reply(alloc: Global, line: &[u8]) -> Result<Said, Unsaid>
+pub fn read_reply(alloc: Global, line: &[u8]) -> Result<ReplyCells, Unsaid>
     ensures said { IfOk result (λ reply. said line.now ≡ Some reply) }
     ensures no_reply { result ≡ Err NoReply → said line.now ≡ None }
     // An empty line takes no memory.
@@ -46,8 +46,9 @@ pub fn read_reply(alloc: Global, line: &[u8]) -> Result<Said, Unsaid>
     parse_reply(alloc, &value)
 }
 
-/// What a value says, if it is a reply.
-fn parse_reply(alloc: Global, value: &Value) -> Result<Said, Unsaid>
+/// Returns the cells that a reply's JSON value has, or `Other`. Returns an error if the value is no
+/// reply, or if an allocation fails.
+fn parse_reply(alloc: Global, value: &Value) -> Result<ReplyCells, Unsaid>
     ensures said { IfOk result (λ reply. said_in (view value.now) ≡ Some reply) }
     ensures no_reply { result ≡ Err NoReply → said_in (view value.now) ≡ None }
 {
@@ -58,7 +59,7 @@ fn parse_reply(alloc: Global, value: &Value) -> Result<Said, Unsaid>
     }
 }
 
-/// The JSON value that a line is.
+/// Parses a line as a JSON value. Returns `NoReply` if it is none.
 fn line_value(alloc: Global, line: &[u8]) -> Result<Value, Unsaid>
     ensures value { IfOk result (λ value. value_of line.now ≡ Some (view value)) }
     ensures no_reply { result ≡ Err NoReply → value_of line.now ≡ None }
@@ -73,9 +74,9 @@ fn line_value(alloc: Global, line: &[u8]) -> Result<Value, Unsaid>
     }
 }
 
-/// What the reply at the key `reply` says, or the value itself if it has no such key. Returns
-/// `None` if that is no reply.
-fn said_in(alloc: Global, value: &Value) -> Result<Option<Said>, AllocError>
+/// Returns the cells of the reply at the value's key `reply`, or of the value itself if it has no
+/// such key. Returns `None` if that is no reply.
+fn said_in(alloc: Global, value: &Value) -> Result<Option<ReplyCells>, AllocError>
     ensures { IfOk result (λ reply. reply ≡ said_in (view value.now)) }
 {
     match value.get("reply") {
@@ -84,9 +85,9 @@ fn said_in(alloc: Global, value: &Value) -> Result<Option<Said>, AllocError>
     }
 }
 
-/// What a reply says. It is `Other` if no text is at `ok`. Returns `None` if the value is no
-/// object, or if what it has of cells is no row or no plane.
-fn reply_in(alloc: Global, value: &Value) -> Result<Option<Said>, AllocError>
+/// Returns the cells of a reply. They are `Other` if no text is at its key `ok`. Returns `None` if
+/// the value is no object, or if its row or plane is malformed.
+fn reply_in(alloc: Global, value: &Value) -> Result<Option<ReplyCells>, AllocError>
     ensures { IfOk result (λ reply. reply ≡ reply_in (view value.now)) }
 {
     if !value.is_object() {
@@ -94,33 +95,33 @@ fn reply_in(alloc: Global, value: &Value) -> Result<Option<Said>, AllocError>
     }
     match text_at(value, "ok") {
         Some(word) => by_word(alloc, word, value),
-        None => Ok(Some(Said::Other)),
+        None => Ok(Some(ReplyCells::Other)),
     }
 }
 
-/// What a reply with this word says of cells. It is `Other` for all words but `colours` and
-/// `plane`. Returns `None` if what they have is no row or no plane.
-fn by_word(alloc: Global, word: &str, value: &Value) -> Result<Option<Said>, AllocError>
+/// Returns the cells of a reply with this word at `ok`. They are `Other` for all words but
+/// `colours` and `plane`. Returns `None` if its row or plane is malformed.
+fn by_word(alloc: Global, word: &str, value: &Value) -> Result<Option<ReplyCells>, AllocError>
     ensures { IfOk result (λ reply. reply ≡ by_word (Some word.now) (view value.now)) }
 {
     match word {
         "colours" => Ok(colours_in(value)),
         "plane" => plane_in(alloc, value),
-        _ => Ok(Some(Said::Other)),
+        _ => Ok(Some(ReplyCells::Other)),
     }
 }
 
-/// The row of cells in a reply, or `None` if its text isn't the digits of a row.
-fn colours_in(value: &Value) -> Option<Said>
+/// Returns the row of a `colours` reply, or `None` if its text isn't the digits of a row.
+fn colours_in(value: &Value) -> Option<ReplyCells>
     ensures { result ≡ colours_in (view value.now) }
 {
     let text = text_at(value, "colours")?;
     let row = colours_of_text(text.as_bytes())?;
-    Some(Said::Colours(row))
+    Some(ReplyCells::Colours(row))
 }
 
-/// All rows in a reply, or `None` if its texts aren't the digits of a plane.
-fn plane_in(alloc: Global, value: &Value) -> Result<Option<Said>, AllocError>
+/// Returns the frame of a `plane` reply, or `None` if its texts aren't the digits of a plane.
+fn plane_in(alloc: Global, value: &Value) -> Result<Option<ReplyCells>, AllocError>
     ensures { IfOk result (λ reply. reply ≡ plane_in (view value.now)) }
 {
     let Some(texts) = value.get("rows").and_then(Value::as_array) else {
@@ -132,22 +133,24 @@ fn plane_in(alloc: Global, value: &Value) -> Result<Option<Said>, AllocError>
     }
 }
 
-/// The frame of these rows, or `None` if they aren't those of a torus.
-fn plane_of_rows(rows: Vec<RowInColours>) -> Option<Said>
-    ensures { result ≡ option_map Said.Plane (frame_of_rows rows.items) }
+/// Returns the frame of these rows as the cells of a reply, or `None` if they aren't the rows of a
+/// torus.
+fn plane_of_rows(rows: Vec<RowInColours>) -> Option<ReplyCells>
+    ensures { result ≡ option_map ReplyCells.Plane (frame_of_rows rows.items) }
 {
     let frame = frame_of_rows(rows)?;
-    Some(Said::Plane(frame))
+    Some(ReplyCells::Plane(frame))
 }
 
-/// The text at a key of an object, or `None` if no text is there.
+/// Returns the text at a key of an object, or `None` if no text is there.
 fn text_at<'a>(value: &'a Value, key: &str) -> Option<&'a str>
     ensures { option_map (λ text. text.now) result ≡ text_at key.now (view value.now) }
 {
     value.get(key).and_then(Value::as_str)
 }
 
-/// The rows of a plane's texts, or `None` if one of them isn't the digits of a row.
+/// Returns the rows of a plane, one for each text. Returns `None` if one of the values isn't a text
+/// of a row's digits.
 fn rows_of_texts(alloc: Global, texts: &[Value]) -> Result<Option<Vec<RowInColours>>, AllocError>
     ensures { IfOk result
         (λ rows. option_map (λ v. v.items) rows ≡ rows_of_texts (items_view texts.now)) }
@@ -162,7 +165,7 @@ fn rows_of_texts(alloc: Global, texts: &[Value]) -> Result<Option<Vec<RowInColou
     Ok(Some(rows))
 }
 
-/// The row of a plane that a value says, or `None` if it isn't a text of the row's digits.
+/// Returns the row of a plane whose digits a JSON text has, or `None` for any other value.
 fn row_in(value: &Value) -> Option<RowInColours>
     ensures { result ≡ option_and_then bits_of_text (as_str (view value.now)) }
 {

@@ -9,8 +9,8 @@ ghost use Rattle.cam6_show_frames.specs.Replies.{digit_column, colours_of_text, 
 use crate::frames::RowInColours;
 use cam6_planes::{COLUMNS, Side, bits_of_digits};
 
-/// The row of colours that a text says, a hexadecimal digit of either case for each column. Returns
-/// `None` if the text is another one, or if no torus has so many columns.
+/// Returns the row of colours that a text has, one hexadecimal digit of either case for each
+/// column. Returns `None` for any other text, or if no torus has so many columns.
 pub(crate) fn colours_of_text(text: &[u8]) -> Option<RowInColours>
     ensures { result ≡ colours_of_text text.now }
 {
@@ -21,7 +21,7 @@ pub(crate) fn colours_of_text(text: &[u8]) -> Option<RowInColours>
     Some(row_of_digits(side, digits))
 }
 
-/// The row of this side with the digits of these bytes as its colours, two to a byte.
+/// Makes the row of this side whose colours are the digits of these bytes, two to a byte.
 fn row_of_digits(side: Side, bytes: &[u8]) -> RowInColours
     requires { length bytes.now ≡ side_number side / 2 }
     ensures { result ≡ map (digit_column bytes.now) (range_with_len 0 (side_number side)) }
@@ -33,7 +33,7 @@ fn row_of_digits(side: Side, bytes: &[u8]) -> RowInColours
     RowInColours::new(side, colours)
 }
 
-/// The colour of a column. A byte has two, the first in its upper four bits.
+/// Returns the colour of column `x`. A byte has two colours, the first in its upper four bits.
 fn digit_column(bytes: &[u8], x: usize) -> u8
     requires { x / 2 < length bytes.now }
     ensures digit { result ≡ digit_column bytes.now x }
@@ -43,8 +43,8 @@ fn digit_column(bytes: &[u8], x: usize) -> u8
     if x % 2 == 0 { byte / 16 } else { byte % 16 }
 }
 
-/// The row of one plane that a text says, four columns to a hexadecimal digit of either case. Its
-/// colours are 0 and 1. Returns `None` if the text is no such row.
+/// Returns the row of one plane that a text has, four columns to a hexadecimal digit of either
+/// case. The row's colours are 0 and 1. Returns `None` if the text is no such row.
 pub(crate) fn bits_of_text(text: &[u8]) -> Option<RowInColours>
     ensures { result ≡ bits_of_text text.now }
 {
@@ -54,7 +54,8 @@ pub(crate) fn bits_of_text(text: &[u8]) -> Option<RowInColours>
     Some(row_of_bits(side, bytes))
 }
 
-/// The row of this side that has the colour 1 where a bit is set, and 0 elsewhere.
+/// Makes the row of this side that has the colour 1 where a bit of these bytes is set, and 0
+/// elsewhere.
 fn row_of_bits(side: Side, bytes: &[u8]) -> RowInColours
     requires { 8 * length bytes.now ≡ side_number side }
     ensures { result ≡ map (λ x. bit_number (byte_column bytes.now x))
@@ -67,7 +68,7 @@ fn row_of_bits(side: Side, bytes: &[u8]) -> RowInColours
     RowInColours::new(side, colours)
 }
 
-/// 1 if the bit of a column is set, or else 0. A byte's highest bit is its first column.
+/// Returns 1 if the bit of column `x` is set, or else 0. A byte's highest bit is its first column.
 fn bit_column(bytes: &[u8], x: usize) -> u8
     requires { x / 8 < length bytes.now }
     ensures bit { result ≡ bit_number (byte_column bytes.now x) }

@@ -5,7 +5,7 @@ ghost use Rattle.cam6_show_frames.specs.Unfinished.{IsUnfinished, goes_on};
 ghost use Rattle.cam6_show_frames.specs.declared.runs.Untaken.TheVariants.{BreaksOff};
 
 use crate::frames::{Frame, RowInColours};
-use crate::replies::Said;
+use crate::replies::ReplyCells;
 use std::alloc::Global;
 use std::marker::Model;
 use std::mem::replace;
@@ -39,7 +39,7 @@ pub enum Untaken {
 impl Run {
     ghost use Rattle.std.specs.Prelude.{[]};
 
-    /// A run without rows.
+    /// Makes a run without rows.
     pub fn new(alloc: Global) -> Run
         ensures { result ≡ [] }
     {
@@ -48,44 +48,45 @@ impl Run {
         }
     }
 
-    /// Whether no frame is under way.
+    /// Returns whether the run has no rows of an unfinished frame.
     pub(crate) fn is_empty(&self) -> bool
         ensures { IsTrue result ↔ (self.now ≡ []) }
     {
         self.rows.is_empty()
     }
 
-    /// Takes a reply, and returns the frame that it completes, if it does. On an error the rows
-    /// stay.
-    pub fn take(&mut self, alloc: Global, said: Said) -> Result<Option<Frame>, Untaken>
+    /// Adds the cells of a reply, and returns the frame that they complete, if they do. Returns
+    /// `BreaksOff` if they can't follow the rows of an unfinished frame. On an error the rows stay.
+    pub fn take(&mut self, alloc: Global, said: ReplyCells) -> Result<Option<Frame>, Untaken>
         ensures ok { IfOk result (λ frame. taken self.old said
             ≡ Some (record { rows = self.new; frame = frame })) }
         ensures breaks_off { result ≡ Err BreaksOff → taken self.old said ≡ None }
         ensures kept { OnErr result (self.new ≡ self.old) }
     {
         match said {
-            Said::Colours(row) => take_row(alloc, &mut self.rows, row),
-            Said::Plane(frame) if self.rows.is_empty() => Ok(Some(frame)),
-            Said::Other if self.rows.is_empty() => Ok(None),
-            Said::Plane(_) | Said::Other => Err(Untaken::BreaksOff),
+            ReplyCells::Colours(row) => add_row(alloc, &mut self.rows, row),
+            ReplyCells::Plane(frame) if self.rows.is_empty() => Ok(Some(frame)),
+            ReplyCells::Other if self.rows.is_empty() => Ok(None),
+            ReplyCells::Plane(_) | ReplyCells::Other => Err(Untaken::BreaksOff),
         }
     }
 }
 
-/// Takes a row after those under way.
-fn take_row(
+/// Adds a row to those of an unfinished frame. If the frame has as many rows as columns now,
+/// returns it, and leaves no rows. Returns `BreaksOff` if the row's length differs.
+fn add_row(
     alloc: Global,
     rows: &mut Vec<RowInColours>,
     row: RowInColours,
 ) -> Result<Option<Frame>, Untaken>
     requires { IsUnfinished rows.old.items }
     ensures unfinished { IsUnfinished rows.new.items }
-    ensures ok { IfOk result (λ frame. taken rows.old.items (Said.Colours row)
+    ensures ok { IfOk result (λ frame. taken rows.old.items (ReplyCells.Colours row)
         ≡ Some (record { rows = rows.new.items; frame = frame })) }
-    ensures breaks_off { result ≡ Err BreaksOff → taken rows.old.items (Said.Colours row) ≡ None }
+    ensures breaks_off { result ≡ Err BreaksOff → taken rows.old.items (ReplyCells.Colours row) ≡ None }
     ensures kept { OnErr result (rows.new.items ≡ rows.old.items) }
 {
-    if !goes_on(rows, &row) {
+    if !has_same_length(rows, &row) {
         return Err(Untaken::BreaksOff);
     }
     let columns = row.columns();
@@ -98,8 +99,8 @@ fn take_row(
     Ok(Some(Frame::new(replace(rows, Vec::new(alloc)))))
 }
 
-/// Whether a row is as long as those before it, if there are some.
-fn goes_on(rows: &[RowInColours], row: &RowInColours) -> bool
+/// Returns whether a row is as long as the rows before it. It is true if there are none.
+fn has_same_length(rows: &[RowInColours], row: &RowInColours) -> bool
     ensures { result ≡ goes_on rows.now row.now }
 {
     match rows.first() {

@@ -58,7 +58,7 @@ pub trait Screen {
         ensures stays { picture self.new ≡ picture self.old };
 }
 
-/// Shows the frames of a reader's lines of replies, and returns how they end.
+/// Reads all lines of replies, and shows their frames on the screen. Returns how this ends.
 pub fn show_frames<R: BufRead, S: Screen>(alloc: Global, reader: &mut R, screen: &mut S) -> End
     ensures shown { ShowsFrames (S.picture screen.old) result (R.remaining reader.old)
         (S.contents screen.old) (S.contents screen.new) }
@@ -90,7 +90,8 @@ enum Stop {
     NoMemory,
 }
 
-/// Takes a line, and shows the frame that it completes, if it does.
+/// Reads one line as a reply, adds its cells to the run, and shows the frame that they complete, if
+/// they do. Returns why showing stops, if it does.
 fn take_line<S: Screen>(
     alloc: Global,
     line: &[u8],
@@ -111,7 +112,8 @@ fn take_line<S: Screen>(
     }
 }
 
-/// Takes a line, and returns the frame that it completes, if it does.
+/// Reads one line as a reply, and adds its cells to the run. Returns the frame that they complete,
+/// if they do, or why showing stops.
 fn take_reply(alloc: Global, line: &[u8], run: &mut Run) -> Result<Option<Frame>, Stop>
     ensures { TakesReply line.now run.old result run.new }
 {
@@ -127,7 +129,7 @@ fn take_reply(alloc: Global, line: &[u8], run: &mut Run) -> Result<Option<Frame>
     }
 }
 
-/// Shows a frame, or returns why showing stops.
+/// Shows a frame on the screen, or returns why showing stops.
 fn show_frame<S: Screen>(screen: &mut S, frame: &Frame) -> Result<(), Stop>
     ensures written { ShowsFrame result (S.contents screen.old) (S.contents screen.new)
         (S.picture screen.old frame.now) }
@@ -140,7 +142,7 @@ fn show_frame<S: Screen>(screen: &mut S, frame: &Frame) -> Result<(), Stop>
     }
 }
 
-/// How showing ends if line n, counted from 1, isn't taken.
+/// Returns how showing ends if it stops at line `n`, counted from 1.
 fn end_at(n: u64, stop: Stop) -> End
     ensures { result ≡ end_at n stop }
 {
@@ -152,7 +154,8 @@ fn end_at(n: u64, stop: Stop) -> End
     }
 }
 
-/// How showing ends after n lines, if none is left.
+/// Returns how showing ends if the input ends after `n` lines: with `BreaksOff` if a frame is
+/// unfinished.
 fn end_after(n: u64, run: &Run) -> End
     ensures { result ≡ end_after n run.now }
 {

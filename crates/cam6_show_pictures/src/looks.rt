@@ -114,7 +114,7 @@ impl Look {
         self.palette[frame.colour(column, row) as usize]
     }
 
-    /// The part of a frame that is shown.
+    /// Returns the part of a frame that is shown.
     fn window_of(&self, frame: &Frame) -> Window
         ensures { result ≡ window_of self.now.window (length frame.now) }
     {
@@ -125,7 +125,7 @@ impl Look {
     }
 }
 
-/// The whole of a torus of this side.
+/// Returns the window that is the whole of a torus of this side.
 fn whole(side: Side) -> Window
     ensures { result ≡ window_of None (side_number side) }
 {

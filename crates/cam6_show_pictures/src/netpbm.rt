@@ -24,7 +24,7 @@ pub struct Netpbm<W> {
 impl<W: Write> Netpbm<W> {
     ghost use Rattle.std.specs.Prelude.{◌≡◌};
 
-    /// A writer of frames with this look.
+    /// Makes a screen that writes frames with this look as PPM pictures.
     pub fn new(alloc: Global, writer: W, look: Look) -> Netpbm<W>
         ensures writer { result.writer ≡ writer }
         ensures look { result.look ≡ look }
@@ -52,7 +52,7 @@ impl<W: Write> Screen for Netpbm<W> {
     }
 }
 
-/// Writes a picture. Uses the vector as scratch for each row of pixels.
+/// Writes the PPM picture of a frame. Uses the vector as scratch for each row of pixels.
 fn write_picture<W: Write>(
     writer: &mut W,
     pixels: &mut Vec<u8>,
@@ -70,14 +70,14 @@ fn write_picture<W: Write>(
     write_rows(writer, pixels, look, frame)
 }
 
-/// The text before the pixels.
+/// Returns the text of a PPM picture before its pixels.
 fn header(alloc: Global, width: usize, height: usize) -> Result<String, AllocError>
     ensures { IfOk result (λ text. string_bytes text ≡ header_of width height) }
 {
     format!(in alloc; "P6\n{width} {height}\n255\n")
 }
 
-/// Writes all rows of pixels.
+/// Writes all rows of a frame's pixels. Uses the vector as scratch for each of them.
 fn write_rows<W: Write>(
     writer: &mut W,
     pixels: &mut Vec<u8>,
@@ -97,7 +97,8 @@ fn write_rows<W: Write>(
     Ok(())
 }
 
-/// Replaces what is in the vector by row j of pixels, counted from 0 and from the top.
+/// Makes row `j` of a frame's pixels, counted from 0 and from the top, in place of what is in the
+/// vector.
 fn pixel_row(pixels: &mut Vec<u8>, look: &Look, frame: &Frame, j: usize) -> Result<(), AllocError>
     requires row { j < most_pixels }
     ensures { IfOk result (λ _. pixels.new.items ≡ pixel_row_of look.now frame.now j) }
@@ -109,7 +110,7 @@ fn pixel_row(pixels: &mut Vec<u8>, look: &Look, frame: &Frame, j: usize) -> Resu
     Ok(())
 }
 
-/// Pushes three bytes: red, green and blue.
+/// Pushes the three bytes of a pixel: red, green and blue.
 fn push_light(pixels: &mut Vec<u8>, light: Light) -> Result<(), AllocError>
     ensures { IfOk result (λ _. pixels.new.items ≡ pixels.old.items ++ light_bytes light) }
 {

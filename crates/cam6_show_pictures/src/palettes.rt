@@ -90,15 +90,16 @@ pub const PALETTE: [Light; 16] = [
     },
 ];
 
-/// Returns the lights of the colours 0 to 15 that a word says: sixteen groups of six hexadecimal
-/// digits, with commas between them. Returns `None` for any other word.
+/// Returns the lights of the colours 0 to 15 that an argument has: sixteen groups of six
+/// hexadecimal digits, with commas between them. Returns `None` for any other word.
 pub fn palette_of(word: &str) -> Option<[Light; 16]>
     ensures { result ≡ palette_said word.now }
 {
     lights_of(word.as_bytes())
 }
 
-/// The lights that a word's bytes say, or `None` if they say none.
+/// Returns the sixteen lights that bytes have as `palette_of` reads them, or `None` for any other
+/// bytes.
 fn lights_of(text: &[u8]) -> Option<[Light; 16]>
     ensures { result ≡ palette_said text.now }
 {
@@ -115,8 +116,8 @@ fn lights_of(text: &[u8]) -> Option<[Light; 16]>
     Some(palette)
 }
 
-/// The light of colour n. Returns `None` if its six digits are none, or if no comma parts it from
-/// the light before.
+/// Returns the light of colour `n` in the text of a palette. Returns `None` if six hexadecimal
+/// digits don't stand there, or if no comma stands before them.
 fn light_at(text: &[u8], n: usize) -> Option<Light>
     requires colour { n < 16 }
     requires word { length text.now ≡ 111 }
@@ -129,7 +130,8 @@ fn light_at(text: &[u8], n: usize) -> Option<Light>
     }
 }
 
-/// Whether a comma stands before the light of colour n. It is true for the first, which needs none.
+/// Returns whether a comma stands before the light of colour `n` in the text of a palette. It is
+/// true for the first light, which needs none.
 fn is_parted(text: &[u8], n: usize) -> bool
     requires colour { n < 16 }
     requires word { length text.now ≡ 111 }
@@ -138,7 +140,7 @@ fn is_parted(text: &[u8], n: usize) -> bool
     n == 0 || text[7 * n - 1] == b','
 }
 
-/// The light of six hexadecimal digits, or `None` for any other bytes.
+/// Returns the light of six hexadecimal digits, or `None` for any other bytes.
 fn light_of(digits: &[u8]) -> Option<Light>
     ensures { result ≡ light_said digits.now }
 {

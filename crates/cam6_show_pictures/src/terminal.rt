@@ -33,8 +33,8 @@ pub struct Terminal<C, W> {
 impl<C: Clock, W: Write> Terminal<C, W> {
     ghost use Rattle.std.specs.Prelude.{◌≡◌};
 
-    /// A terminal on which each picture stays at least for the pause, by the clock. Without a pause
-    /// the next one may follow at once.
+    /// Makes a screen that writes frames with this look to a terminal. Each picture stays at least
+    /// for the pause, by the clock. Without a pause the next one may follow at once.
     pub fn new(
         alloc: Global,
         clock: C,
@@ -76,7 +76,7 @@ impl<C: Clock, W: Write> Screen for Terminal<C, W> {
     }
 }
 
-/// Writes a picture. Uses the vector as scratch for each line of characters.
+/// Writes the terminal picture of a frame. Uses the vector as scratch for each line of characters.
 fn write_picture<W: Write>(
     writer: &mut W,
     line: &mut Vec<u8>,
@@ -91,7 +91,8 @@ fn write_picture<W: Write>(
     write_bytes(writer, b"\x1b[J")
 }
 
-/// Writes all lines of characters.
+/// Writes all lines of characters of a frame's picture. Uses the vector as scratch for each of
+/// them.
 fn write_lines<W: Write>(
     writer: &mut W,
     line: &mut Vec<u8>,
@@ -111,8 +112,8 @@ fn write_lines<W: Write>(
     Ok(())
 }
 
-/// Replaces what is in the vector by line k of characters, counted from 0, and its LF. It shows the
-/// pixels of the rows 2k and 2k + 1.
+/// Makes line `k` of characters, counted from 0, and its LF, in place of what is in the vector. The
+/// line shows the pixels of the rows 2k and 2k + 1.
 fn character_line(
     line: &mut Vec<u8>,
     look: &Look,
@@ -129,8 +130,8 @@ fn character_line(
     line.extend_from_slice(b"\x1b[0m\x1b[K\n")
 }
 
-/// Pushes the character that shows the pixels at column i of the rows 2k and 2k + 1, after the
-/// orders for its two colours.
+/// Pushes the escape sequences for two colours, and the character that shows with them the pixels
+/// at column `i` of the rows 2k and 2k + 1.
 fn push_character(
     line: &mut Vec<u8>,
     look: &Look,
@@ -148,8 +149,8 @@ fn push_character(
     line.extend_from_slice(UPPER_HALF)
 }
 
-/// Pushes the order for the colour behind a character: that of pixel (i, j), or the terminal's own
-/// if the picture has no row j.
+/// Pushes the escape sequence for the colour behind a character. That is the colour of the pixel at
+/// column `i` of row `j`, or the terminal's own if the picture has no row `j`.
 fn push_background(
     line: &mut Vec<u8>,
     look: &Look,
@@ -169,7 +170,7 @@ fn push_background(
     }
 }
 
-/// Pushes these bytes of an order, the number in decimal, and the `m` at its end.
+/// Pushes an escape sequence: the bytes of `order`, the number in decimal, and the `m` at its end.
 fn push_order(line: &mut Vec<u8>, order: &[u8], number: u8) -> Result<(), AllocError>
     ensures { IfOk result (λ _. line.new.items
         ≡ line.old.items ++ (order.now ++ decimal number ++ codes "m")) }
@@ -192,14 +193,14 @@ fn push_decimal(line: &mut Vec<u8>, n: u8) -> Result<(), AllocError>
     }
 }
 
-/// The number of a light among the terminal's 256 colours, from 16 to 231.
+/// Returns the number, from 16 to 231, of the one of the terminal's 256 colours that shows a light.
 fn hue(light: Light) -> u8
     ensures { result ≡ hue_of light }
 {
     16 + 36 * step_of(light.red) + 6 * step_of(light.green) + step_of(light.blue)
 }
 
-/// The level of an amount of light, from 0 to 5.
+/// Returns the level from 0 to 5 of one of a light's amounts.
 fn step_of(amount: u8) -> u8
     ensures step { result ≡ step_told amount }
     ensures few { result ≤ 5 }

@@ -1,6 +1,6 @@
 use Rattle.std.proofs.Common.{rules, ap, length, arith}
 use Rattle.cam6_show_frames.proofs.OneMore.{stays_unfinished, becomes_frame}
-use Rattle.cam6_show_frames.proofs.runs.take_row.Goals as goal
+use Rattle.cam6_show_frames.proofs.runs.add_row.Goals as goal
 
 pub returns-then-len-columns-clause-unfinished : goal.returns-then-len-columns-clause-unfinished
 returns-then-len-columns-clause-unfinished c =
