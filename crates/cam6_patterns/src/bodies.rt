@@ -57,7 +57,7 @@ impl Cells {
     ghost use Rattle.cam6_patterns.specs.Body.{whole_line_read};
     ghost use Rattle.cam6_patterns.specs.Outcome.{StepsTo};
 
-    /// Nothing is read yet.
+    /// Makes the cells of which nothing is read yet.
     pub(crate) fn new(alloc: Global) -> Cells
         ensures { result ≡ nothing_read }
     {
@@ -69,7 +69,7 @@ impl Cells {
         }
     }
 
-    /// Returns all rows. A last one that didn't end counts if it has a cell.
+    /// Returns all rows that were read. A last row that didn't end counts if it has a cell.
     pub(crate) fn into_rows(self) -> Result<Vec<PatternRow>, AllocFailed<PatternRow>>
         ensures { IfOk result (λ rows. rows.items ≡ whole_rows self) }
     {
@@ -80,8 +80,9 @@ impl Cells {
         Ok(rows)
     }
 
-    /// Reads a line of cells, with this number counted from 1. The line's end counts as a blank.
-    /// Returns `Over` after a `!`, and what comes after it isn't read.
+    /// Reads a line of cells, whose number is `line`, counted from 1. The line's end counts as a
+    /// blank. Returns `Over` after a `!`, and doesn't read what comes after it. Otherwise returns
+    /// `More`, or the line's first fault.
     pub(crate) fn read_line(
         &mut self,
         bounds: &Bounds,
@@ -102,8 +103,9 @@ impl Cells {
         self.unless_counting(line, column, Going::More)
     }
 
-    /// Reads one byte: a digit of a count, a blank, a `$`, a `!` or a cell. Any other byte is a
-    /// fault, and so is a blank or a `!` after a count. Returns `Over` after a `!`.
+    /// Reads one byte, at this line and column: a digit of a count, a blank, a `$`, a `!` or a
+    /// cell. Any other byte is a fault, and so is a blank or a `!` after a count. Returns `Over`
+    /// after a `!`, and `More` after any other byte.
     fn step(
         &mut self,
         bounds: &Bounds,
@@ -114,26 +116,27 @@ impl Cells {
         ensures { StepsTo (step bounds.now line column self.old (sign byte)) self.new result }
     {
         if is_decimal(byte) {
-            self.with_digit(line, column, byte - b'0')
+            self.add_digit(line, column, byte - b'0')
         } else if is_blank(byte) {
             self.unless_counting(line, column, Going::More)
         } else if byte == b'$' {
-            self.with_row_ends(bounds, line, column)
+            self.end_rows(bounds, line, column)
         } else if byte == b'!' {
             self.unless_counting(line, column, Going::Over)
         } else if byte == b'b' || byte == b'.' {
-            self.with_cells(bounds, line, column, 0)
+            self.add_cells(bounds, line, column, 0)
         } else if byte == b'o' {
-            self.with_cells(bounds, line, column, 1)
+            self.add_cells(bounds, line, column, 1)
         } else if b'A' <= byte && byte < b'Y' {
-            self.with_cells(bounds, line, column, byte - 64)
+            self.add_cells(bounds, line, column, byte - 64)
         } else {
             Err(fault(line, column, Cause::Unexpected))
         }
     }
 
-    /// Appends a digit to the number that is being read. A number above 512 is a fault.
-    fn with_digit(&mut self, line: usize, column: usize, digit: u8) -> Result<Going, Unread>
+    /// Appends a digit to the count that is being read, and returns `More`. A count above 512 is a
+    /// fault at this line and column.
+    fn add_digit(&mut self, line: usize, column: usize, digit: u8) -> Result<Going, Unread>
         ensures { StepsTo (with_digit line column self.old digit) self.new result }
     {
         let number = 10 * u32::from(self.counted()) + u32::from(digit);
@@ -144,9 +147,9 @@ impl Cells {
         Ok(Going::More)
     }
 
-    /// Adds cells of this state to the row: as many as the number before says, or one without a
-    /// number. It is a fault if they don't fit, or if there is no such state.
-    fn with_cells(
+    /// Adds cells of this state to the row: as many as the count before them says, or one without a
+    /// count. Returns `More`, or a fault if they don't fit or if there is no such state.
+    fn add_cells(
         &mut self,
         bounds: &Bounds,
         line: usize,
@@ -171,14 +174,9 @@ impl Cells {
         Ok(Going::More)
     }
 
-    /// Ends as many rows as the number before says, or one without a number: this one, and then
-    /// rows without a cell. It is a fault if there are too many rows then.
-    fn with_row_ends(
-        &mut self,
-        bounds: &Bounds,
-        line: usize,
-        column: usize,
-    ) -> Result<Going, Unread>
+    /// Ends as many rows as the count before a `$` says, or one without a count: this row, and then
+    /// rows without a cell. Returns `More`, or a fault if there are too many rows then.
+    fn end_rows(&mut self, bounds: &Bounds, line: usize, column: usize) -> Result<Going, Unread>
         ensures { StepsTo (with_row_ends bounds.now line column self.old) self.new result }
     {
         let times = self.times();
@@ -195,7 +193,7 @@ impl Cells {
         Ok(Going::More)
     }
 
-    /// The number that is being read, or 0 if there is none.
+    /// Returns the count that is being read, or 0 if there is none.
     fn counted(&self) -> u16
         ensures { result
             ≡ (if is_counting self.now.count then times self.now.count else 0) }
@@ -206,7 +204,7 @@ impl Cells {
         }
     }
 
-    /// The number that was just read, or 1 if there is none.
+    /// Returns how often the next sign counts: the count that was just read, or 1 if there is none.
     fn times(&self) -> usize
         ensures { result ≡ times self.now.count }
     {
@@ -216,7 +214,7 @@ impl Cells {
         }
     }
 
-    /// Returns a fault if a number was read last, or else `going`.
+    /// Returns `going`, or a fault at this line and column if a count was read last.
     fn unless_counting(&self, line: usize, column: usize, going: Going) -> Result<Going, Unread>
         ensures { result ≡ (if is_counting self.now.count
             then Err (Fault (record { line = line; column = column; cause = Cause.Unexpected }))
@@ -229,7 +227,7 @@ impl Cells {
     }
 }
 
-/// Pushes so many rows without a cell.
+/// Pushes `count` rows without a cell.
 fn push_empty(
     alloc: Global,
     rows: &mut Vec<PatternRow>,
@@ -245,7 +243,7 @@ fn push_empty(
     Ok(())
 }
 
-/// Why no pattern was read: a fault at this line and column.
+/// Returns the error for a fault at this line and column, both counted from 1.
 pub(crate) fn fault(line: usize, column: usize, cause: Cause) -> Unread
     ensures { result ≡ Fault (record { line = line; column = column; cause = cause }) }
 {

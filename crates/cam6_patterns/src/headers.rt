@@ -36,7 +36,8 @@ pub(crate) enum Head {
 }
 
 /// Reads a line before the cells: a remark, a blank line, or the header. `number` is the line's
-/// number, counted from 1, and `corner` is what remarks before it said.
+/// number, counted from 1. `corner` is the pattern's upper left corner, a column and a row, if a
+/// remark before had one.
 pub(crate) fn read_head(
     side: Side,
     number: usize,
@@ -55,12 +56,13 @@ pub(crate) fn read_head(
     if past_blanks(line).is_empty() {
         return Ok(Head::Before(corner));
     }
-    header(side, number, corner, extents_in(line))
+    check_header(side, number, corner, extents_in(line))
 }
 
-/// Returns the box of a header with this width and height. It is a fault if there are none, or if
-/// the pattern is wider or higher than the torus.
-fn header(
+/// Returns where the pattern lies, and how large it is, by its header's width and height. It is a
+/// fault if the header has none (`extents`), or if one is more than the side. `number` is the
+/// line's.
+fn check_header(
     side: Side,
     number: usize,
     corner: Option<(usize, usize)>,
@@ -81,7 +83,8 @@ fn header(
     Ok(Head::Within(boxed(corner, width, height)))
 }
 
-/// The box of a pattern. Its corner is the one that remarks said, or column 0 of row 0.
+/// Returns where a pattern lies, and how large it is. Its upper left corner is `corner`, or column
+/// 0 of row 0 without one.
 fn boxed(corner: Option<(usize, usize)>, width: usize, height: usize) -> Extent
     ensures { boxed result ≡ box corner (width, height) }
 {
@@ -101,7 +104,7 @@ fn boxed(corner: Option<(usize, usize)>, width: usize, height: usize) -> Extent
     }
 }
 
-/// The first if there is one, or else the second.
+/// Returns the first pair if there is one, or else the second.
 fn first_or_second(
     first: Option<(usize, usize)>,
     second: Option<(usize, usize)>,
@@ -114,7 +117,7 @@ fn first_or_second(
     }
 }
 
-/// A fault at the first column of a line.
+/// Returns a fault at the first column of a line.
 fn fault(line: usize, cause: Cause) -> PatternFault
     ensures { result ≡ (record { line = line; column = 1; cause = cause }) }
 {
@@ -125,21 +128,21 @@ fn fault(line: usize, cause: Cause) -> PatternFault
     }
 }
 
-/// A space, a tab, or a CR.
+/// Returns whether a byte is a space, a tab, or a CR.
 pub(crate) fn is_blank(byte: u8) -> bool
     ensures { result ≡ is_blank byte }
 {
     byte == b' ' || byte == b'\t' || byte == b'\r'
 }
 
-/// A decimal digit.
+/// Returns whether a byte is a decimal digit.
 pub(crate) fn is_decimal(byte: u8) -> bool
     ensures { result ≡ is_decimal byte }
 {
     b'0' <= byte && byte < b':'
 }
 
-/// The bytes without the blanks at their front.
+/// Returns the bytes after the blanks at their front.
 fn past_blanks(bytes: &[u8]) -> &[u8]
     ensures { result.now ≡ past_blanks bytes.now }
 {
@@ -153,8 +156,8 @@ fn past_blanks(bytes: &[u8]) -> &[u8]
     rest
 }
 
-/// The number at the front, and what comes after it. A large number is lowered. Returns `None` if
-/// no digit stands at the front.
+/// Returns the decimal number at the front, and the bytes after it. A large number is reduced as
+/// `lowered` says. Returns `None` if no digit stands at the front.
 fn number_at_front(bytes: &[u8]) -> Option<(usize, &[u8])>
     ensures { MatchOption result (number_at_front bytes.now ≡ None)
         (λ r. (n : ℕ) × (number_at_front bytes.now ≡ Some (n, r.1.now)) × StandsFor n r.0) }
@@ -166,8 +169,8 @@ fn number_at_front(bytes: &[u8]) -> Option<(usize, &[u8])>
     Some(number_after(usize::from(*first - b'0'), later))
 }
 
-/// The number of a first digit and the digits at the front, and what comes after them. A large
-/// number is lowered.
+/// Returns the number of a first digit and the digits at the front, and the bytes after them. A
+/// large number is reduced as `lowered` says.
 fn number_after(first: usize, bytes: &[u8]) -> (usize, &[u8])
     requires { first < 10 }
     ensures { (n : ℕ) × (number_after first bytes.now ≡ (n, result.1.now))
@@ -185,8 +188,8 @@ fn number_after(first: usize, bytes: &[u8]) -> (usize, &[u8])
     (number, rest)
 }
 
-/// A number below 1,024 as it is. A larger one becomes one from 1,024 to 1,535 that is the same
-/// modulo 512.
+/// Reduces a large number. A number below 1,024 stays as it is. A larger one becomes one from 1,024
+/// to 1,535 that is the same modulo 512.
 fn lowered(number: usize) -> usize
     ensures same { StandsFor number result }
     ensures small { result < 3 * most_cells }
@@ -198,7 +201,7 @@ fn lowered(number: usize) -> usize
     }
 }
 
-/// What comes after `first`, if the bytes begin with it.
+/// Returns the bytes after `first`, or `None` if the bytes don't begin with it.
 fn strip_prefix<'a>(first: &[u8], bytes: &'a [u8]) -> Option<&'a [u8]>
     ensures { MatchOption result (strip_prefix first.now bytes.now ≡ None)
         (λ r. strip_prefix first.now bytes.now ≡ Some r.now) }
@@ -216,7 +219,8 @@ fn strip_prefix<'a>(first: &[u8], bytes: &'a [u8]) -> Option<&'a [u8]>
     Some(rest)
 }
 
-/// What comes after blanks and then this byte.
+/// Returns the bytes after blanks and then this byte. Returns `None` if another byte comes after
+/// the blanks.
 fn after_sign(sign: u8, bytes: &[u8]) -> Option<&[u8]>
     ensures { MatchOption result (after_sign sign bytes.now ≡ None)
         (λ r. after_sign sign bytes.now ≡ Some r.now) }
@@ -224,7 +228,8 @@ fn after_sign(sign: u8, bytes: &[u8]) -> Option<&[u8]>
     strip_prefix(&[sign], past_blanks(bytes))
 }
 
-/// The number after a letter and an equals sign, with blanks between, and what comes after it.
+/// Returns the number after this letter and an equals sign, with blanks between them, and the bytes
+/// after the number. Returns `None` if the bytes don't begin so.
 fn extent_at_front(letter: u8, bytes: &[u8]) -> Option<(usize, &[u8])>
     ensures { MatchOption result (extent_at_front letter bytes.now ≡ None)
         (λ r. (n : ℕ) × (extent_at_front letter bytes.now ≡ Some (n, r.1.now))
@@ -235,7 +240,7 @@ fn extent_at_front(letter: u8, bytes: &[u8]) -> Option<(usize, &[u8])>
     number_at_front(past_blanks(rest))
 }
 
-/// Whether nothing more comes, or a comma.
+/// Returns whether the bytes are empty, or begin with a comma.
 fn ends_header(bytes: &[u8]) -> bool
     ensures { result ≡ ends_header bytes.now }
 {
@@ -245,8 +250,8 @@ fn ends_header(bytes: &[u8]) -> bool
     }
 }
 
-/// The width and the height that a header says, lowered if they are large. Returns `None` if the
-/// line is no header.
+/// Returns the width and the height that a header has, reduced if they are large. Returns `None` if
+/// the line is no header.
 fn extents_in(line: &[u8]) -> Option<(usize, usize)>
     ensures { AreExtents (extents_in line.now) result }
 {
@@ -260,7 +265,8 @@ fn extents_in(line: &[u8]) -> Option<(usize, usize)>
     }
 }
 
-/// The whole number at the front modulo 512, and what comes after it. A minus may stand before it.
+/// Returns the whole number at the front modulo 512, and the bytes after it. A minus may stand
+/// before the number. Returns `None` if no number stands at the front.
 fn offset_at_front(bytes: &[u8]) -> Option<(usize, &[u8])>
     ensures { MatchOption result (offset_at_front bytes.now ≡ None)
         (λ r. offset_at_front bytes.now ≡ Some (r.0, r.1.now)) }
@@ -275,7 +281,8 @@ fn offset_at_front(bytes: &[u8]) -> Option<(usize, &[u8])>
     }
 }
 
-/// The column and the row at the front, each modulo 512, with this byte between them.
+/// Returns the column and the row at the front, each modulo 512, with the byte `between` between
+/// them. Returns `None` if the bytes don't begin so.
 fn corner_at_front(between: u8, bytes: &[u8]) -> Option<(usize, usize)>
     ensures { result ≡ corner_at_front between bytes.now }
 {
@@ -285,7 +292,7 @@ fn corner_at_front(between: u8, bytes: &[u8]) -> Option<(usize, usize)>
     Some((column, row))
 }
 
-/// What comes after the first place where `wanted` stands.
+/// Returns the bytes after the first place where `wanted` stands, or `None` if it stands nowhere.
 fn after_first<'a>(wanted: &[u8], bytes: &'a [u8]) -> Option<&'a [u8]>
     ensures { MatchOption result (after_first wanted.now bytes.now ≡ None)
         (λ r. after_first wanted.now bytes.now ≡ Some r.now) }
@@ -300,7 +307,8 @@ fn after_first<'a>(wanted: &[u8], bytes: &'a [u8]) -> Option<&'a [u8]>
     None
 }
 
-/// Where a remark says that the pattern lies, if it does.
+/// Returns the column and the row of a pattern's upper left corner that a remark has. Returns
+/// `None` for any other remark.
 fn corner_in(line: &[u8]) -> Option<(usize, usize)>
     ensures { result ≡ corner_in line.now }
 {
@@ -308,7 +316,8 @@ fn corner_in(line: &[u8]) -> Option<(usize, usize)>
     first_or_second(corner_of_position(line), second)
 }
 
-/// The corner after "Pos=" in a remark of Golly's.
+/// Returns the column and the row after "Pos=" in a remark of Golly's. Returns `None` for any other
+/// line.
 fn corner_of_position(line: &[u8]) -> Option<(usize, usize)>
     ensures { result
         ≡ option_and_then
@@ -319,7 +328,8 @@ fn corner_of_position(line: &[u8]) -> Option<(usize, usize)>
     corner_at_front(b',', after_first(b"Pos=", rest)?)
 }
 
-/// The corner after these bytes, with a space between its numbers.
+/// Returns the column and the row, with a space between them, of a line that begins with the bytes
+/// `first`. Returns `None` for any other line.
 fn corner_after(first: &[u8], line: &[u8]) -> Option<(usize, usize)>
     ensures { result ≡ option_and_then (corner_at_front 32) (strip_prefix first.now line.now) }
 {

@@ -3,7 +3,8 @@ ghost use Rattle.std.specs.Prelude.{◌≡◌, ◌≢◌, ◌<◌, ◌≤◌, �
 ghost use Rattle.std.specs.Prelude.{slice_index};
 ghost use Rattle.cam6_show_frames.specs.Lines.{lines};
 
-/// The first line without its LF, and what comes after the LF. Returns `None` if the text is empty.
+/// Returns the first line without its LF, and the text after the LF. Returns `None` if the text is
+/// empty.
 pub(crate) fn first_line(text: &[u8]) -> Option<(&[u8], &[u8])>
     ensures line { MatchOption result (lines text.now ≡ [])
         (λ cut. lines text.now ≡ cut.0.now ∷ lines cut.1.now) }
@@ -20,7 +21,7 @@ pub(crate) fn first_line(text: &[u8]) -> Option<(&[u8], &[u8])>
     }
 }
 
-/// How many bytes stand before the first LF, or in the whole text if it has none.
+/// Returns how many bytes stand before the first LF, or in the whole text if it has none.
 fn line_len(text: &[u8]) -> usize
     ensures within { result ≤ length text.now }
     ensures before { (k : ℕ) → k < result → slice_index text.now k ≢ 10 }

@@ -56,7 +56,7 @@ impl Pattern {
     ghost use Rattle.cam6_patterns.specs.Reading.{with_rows};
     ghost use Rattle.cam6_patterns.specs.Outcome.{boxed};
 
-    /// A box with rows in it.
+    /// Makes a pattern of these rows, at this place and of this size.
     pub(crate) fn new(extent: Extent, rows: Vec<PatternRow>) -> Pattern
         requires { IsPattern most_states (with_rows (boxed extent) rows.items) }
         ensures { result ≡ with_rows (boxed extent) rows.items }

@@ -38,7 +38,7 @@ impl ChosenPlanes {
     ghost use Rattle.std.specs.Prelude.{◌≡◌, ◌<◌, ◌≤◌, ◌^◌, length, take};
     ghost use Rattle.std.specs.List.{AllByRecursion};
 
-    /// The first `count` of these planes.
+    /// Makes the list of the first `count` of these planes.
     pub fn new(count: usize, planes: [u8; 4]) -> ChosenPlanes
         requires some { 0 < count }
         requires few { count ≤ 4 }
@@ -61,7 +61,7 @@ impl ChosenPlanes {
         }
     }
 
-    /// The planes in order, at least one and at most four.
+    /// Returns the planes in order, at least one and at most four.
     fn as_slice(&self) -> &[u8]
         ensures { result.now ≡ self.now }
     {
@@ -69,8 +69,8 @@ impl ChosenPlanes {
     }
 }
 
-/// Writes the command lines that set the rows of a pattern's planes on a torus of a side. The
-/// pattern says where its upper left corner lies, and is moved from there by so many columns and
+/// Writes the `set` command lines that put a pattern on a torus of this side, for each of its rows
+/// one for each plane. The pattern's own upper left corner is moved by `column` columns and `row`
 /// rows.
 pub fn write_placed<W: Write>(
     writer: &mut W,
@@ -114,7 +114,7 @@ impl Placement<'_> {
     ghost use Rattle.cam6_patterns.specs.Placing.{bit_placed, set_line};
     ghost use Rattle.cam6_patterns.specs.Outcome.{lines_of_row};
 
-    /// Writes the lines that set the pattern's row y, counted from 0: one for each plane.
+    /// Writes the `set` lines of the pattern's row `y`, counted from 0: one for each plane.
     fn write_row<W: Write>(
         &self,
         writer: &mut W,
@@ -134,7 +134,8 @@ impl Placement<'_> {
         Ok(())
     }
 
-    /// The line that sets a row of a plane to bit k of the pattern's row y.
+    /// Returns the command line that sets a row of this plane. Its bits are bit `k` of the states
+    /// in the pattern's row `y`.
     fn set_line(&self, plane: u8, k: usize, y: usize) -> Line
         requires top { self.now.top < 2 * most_cells }
         requires row { y < most_cells }
@@ -156,7 +157,8 @@ impl Placement<'_> {
         line
     }
 
-    /// The digits of the row y of bit k.
+    /// Returns the hexadecimal digits of a row of a plane: bit `k` of the states in the pattern's
+    /// row `y`, four columns to a digit.
     fn digits(&self, k: usize, y: usize) -> [u8; DIGITS]
         ensures { let n = side_number self.now.side / 4 in
             take n result ≡ row_text n
@@ -169,7 +171,8 @@ impl Placement<'_> {
         digits
     }
 
-    /// The bytes of the row y of bit k.
+    /// Returns the bytes of a row of a plane: bit `k` of the states in the pattern's row `y`, eight
+    /// columns to a byte.
     fn bytes(&self, k: usize, y: usize) -> [u8; BYTES]
         ensures { let n = side_number self.now.side / 8 in
             take n result ≡ row_bytes n
@@ -182,7 +185,8 @@ impl Placement<'_> {
         bytes
     }
 
-    /// The eight columns from x on as a number. Column x is its highest bit.
+    /// Returns bit `k` of the states at the torus's columns x to x + 7, in the pattern's row `y`,
+    /// as a number. Column x gives the highest bit.
     fn eight_columns(&self, k: usize, y: usize, x: usize) -> u8
         requires { x + 8 ≤ most_cells }
         ensures { result ≡ eight_columns
@@ -191,7 +195,8 @@ impl Placement<'_> {
         16 * self.four_columns(k, y, x) + self.four_columns(k, y, x + 4)
     }
 
-    /// The four columns from x on as a number. Column x is its highest bit.
+    /// Returns bit `k` of the states at the torus's columns x to x + 3, in the pattern's row `y`,
+    /// as a number. Column x gives the highest bit.
     fn four_columns(&self, k: usize, y: usize, x: usize) -> u8
         requires { x + 4 ≤ most_cells }
         ensures columns { result ≡ four_columns
@@ -204,8 +209,8 @@ impl Placement<'_> {
             + self.bit(k, y, x + 3)
     }
 
-    /// Bit k of the state that lies at the torus's column x, in the pattern's row y. It is 0 beside
-    /// the pattern.
+    /// Returns bit `k` of the state at the torus's column `x`, in the pattern's row `y`. It is 0
+    /// beside the pattern.
     fn bit(&self, k: usize, y: usize, x: usize) -> u8
         requires { x < most_cells }
         ensures bit { result ≡ bit_number (bit_placed (side_number self.now.side) self.now.first
@@ -237,7 +242,7 @@ fn push_all(line: &mut Line, bytes: &[u8])
     line.try_extend_from_slice(bytes).unwrap();
 }
 
-/// The state at a column and a row, or 0 if the rows leave it out.
+/// Returns the state at column `x` of row `y`, or 0 if the rows leave it out.
 fn state_in(rows: &[PatternRow], x: usize, y: usize) -> u8
     ensures { result ≡ state_in rows.now x y }
 {
@@ -250,7 +255,7 @@ fn state_in(rows: &[PatternRow], x: usize, y: usize) -> u8
     }
 }
 
-/// Bit k of a state.
+/// Returns bit `k` of a state, counted from the lowest, which is 0.
 fn bit_of(state: u8, k: usize) -> u8
     ensures bit { result ≡ bit_number (bit_at state k == 1) }
     ensures small { result < 2 }

@@ -31,7 +31,7 @@ impl From<AllocError> for Unread {
 
     ghost from_gives = { λ _ e. e ≡ NoMemory };
 
-    /// A refused allocation becomes `NoMemory`, which is no fault of the text.
+    /// Makes `NoMemory`, which is no fault of the text, of a failed allocation.
     fn from(_refused: AllocError) -> Unread {
         Unread::NoMemory
     }
@@ -48,8 +48,8 @@ impl<T: Drop> From<AllocFailed<T>> for Unread {
     }
 }
 
-/// Returns the pattern of a text, for a torus of a side and cells of so many states, or its first
-/// fault.
+/// Reads the text of a pattern for a torus of this side, whose cells have so many states. Returns
+/// the pattern, or the text's first fault.
 pub fn read_pattern(alloc: Global, side: Side, states: u8, text: &[u8]) -> Result<Pattern, Unread>
     requires { states ≤ most_states }
     ensures pattern { IfOk result (λ p. pattern_in (side_number side) states text.now ≡ Ok p) }
@@ -74,7 +74,8 @@ struct Start<'a> {
     rest: &'a [u8],
 }
 
-/// The pattern's box, and where its cells begin; or the fault of the lines before them.
+/// Reads the lines up to the header. Returns where the pattern lies, how large it is, and the text
+/// after the header. Or returns the first fault of these lines.
 #[tactic(auto, unfolding(crate::specs::Reading::pattern_in))]
 fn find_box(side: Side, text: &[u8]) -> Result<Start<'_>, PatternFault>
     ensures start { (states : ℕ) → MatchResult result
@@ -108,7 +109,8 @@ fn find_box(side: Side, text: &[u8]) -> Result<Start<'_>, PatternFault>
     })
 }
 
-/// The rows of the cells that come after so many lines.
+/// Reads the rows of cells in the text after the header. `before` is how many lines come before
+/// this text. Returns the text's first fault if it has one.
 fn read_rows(
     alloc: Global,
     extent: Extent,

@@ -27,7 +27,8 @@ pub struct PatternTexts<W> {
 impl<W: Write> PatternTexts<W> {
     ghost use Rattle.std.specs.Prelude.{◌≡◌, string_bytes};
 
-    /// A writer of texts that name this rule. If the name is empty, they name none.
+    /// Makes a screen that writes each frame as the text of a pattern. The texts have this rule's
+    /// name, or no rule if it is empty.
     pub fn new(alloc: Global, writer: W, rule: String) -> PatternTexts<W>
         ensures writer { result.writer ≡ writer }
         ensures rule { result.rule ≡ rule }
@@ -49,7 +50,7 @@ impl<W: Write> Screen for PatternTexts<W> {
 
     ghost contents = { λ s. W.contents s.writer };
 
-    /// Makes the text of the frame, and writes it. The memory of the text before is used again.
+    /// Makes the text of the frame, and writes it. Uses the memory of the text before again.
     fn show(&mut self, frame: &Frame) -> Result<(), Unshown> {
         match make_text(&mut self.text, self.rule.as_bytes(), frame) {
             Ok(()) => write_bytes(&mut self.writer, &self.text),
@@ -58,7 +59,8 @@ impl<W: Write> Screen for PatternTexts<W> {
     }
 }
 
-/// Replaces what is in the vector by the text of a frame.
+/// Makes the text of a frame in the vector, in place of what is there. `rule` is the name in its
+/// header, or empty.
 fn make_text(text: &mut Vec<u8>, rule: &[u8], frame: &Frame) -> Result<(), AllocError>
     ensures { OnOk result (text.new.items ≡ text_of_frame rule.now frame.now) }
 {
@@ -69,7 +71,8 @@ fn make_text(text: &mut Vec<u8>, rule: &[u8], frame: &Frame) -> Result<(), Alloc
     Ok(())
 }
 
-/// The header of as many rows as columns, with the name of a rule if there is one.
+/// Pushes the header of a pattern of `side` rows and columns, with the rule's name if it isn't
+/// empty.
 fn push_header(text: &mut Vec<u8>, side: usize, rule: &[u8]) -> Result<(), AllocError>
     ensures { OnOk result
         (text.new.items ≡ text.old.items ++ header side side rule.now) }
@@ -87,7 +90,7 @@ fn push_header(text: &mut Vec<u8>, side: usize, rule: &[u8]) -> Result<(), Alloc
     text.extend_from_slice(b"\n")
 }
 
-/// All rows of a frame, and the end, but not the LF after it.
+/// Pushes all rows of a frame, and the `!` at the end, but not the LF after it.
 fn push_rows(text: &mut Vec<u8>, states: u8, frame: &Frame) -> Result<(), AllocError>
     ensures { OnOk result (text.old.items ++ filled 0 (row_by_row states 0 frame.now)
         ≡ text.new.items ++ codes "\n") }
@@ -105,8 +108,9 @@ fn push_rows(text: &mut Vec<u8>, states: u8, frame: &Frame) -> Result<(), AllocE
     Ok(())
 }
 
-/// Pushes a row, and before it the row ends that aren't written yet. Returns how many bytes the
-/// last line has, and how many row ends are then not written yet.
+/// Pushes the `ends` row ends that aren't written yet, and then a row. A row of zeros alone is only
+/// counted as a row end. `used` is how many bytes the last line has. Returns this number after it,
+/// and how many row ends are then not written yet.
 fn push_row(
     text: &mut Vec<u8>,
     used: usize,
@@ -129,7 +133,8 @@ fn push_row(
     Ok((used, 1))
 }
 
-/// Pushes the ends of so many rows, or nothing for 0. Returns how many bytes the last line has.
+/// Pushes the ends of `ends` rows, or nothing for 0. `used` is how many bytes the last line has.
+/// Returns this number after it.
 fn push_row_ends(text: &mut Vec<u8>, used: usize, ends: usize) -> Result<usize, AllocError>
     ensures { IfOk result (λ after.
         Fills text.old.items used (row_ends ends) text.new.items after) }
@@ -140,7 +145,8 @@ fn push_row_ends(text: &mut Vec<u8>, used: usize, ends: usize) -> Result<usize, 
     push_part(text, used, counted(ends, b'$').as_slice())
 }
 
-/// Pushes the runs of a row's cells. Returns how many bytes the last line has.
+/// Pushes the runs of equal cells of a row. `used` is how many bytes the last line has. Returns
+/// this number after it.
 fn push_runs(text: &mut Vec<u8>, used: usize, states: u8, cells: &[u8]) -> Result<usize, AllocError>
     requires { AllByRecursion (λ cell. cell < most_states) cells.now }
     ensures { IfOk result (λ after.
@@ -166,7 +172,8 @@ fn push_runs(text: &mut Vec<u8>, used: usize, states: u8, cells: &[u8]) -> Resul
     push_part(text, used, counted(count, letter(states, state)).as_slice())
 }
 
-/// Pushes a part, on a new line if it doesn't fit. Returns how many bytes the last line has.
+/// Pushes a part, on a new line if it doesn't fit on the last one. `used` is how many bytes the
+/// last line has. Returns this number after it.
 fn push_part(text: &mut Vec<u8>, used: usize, part: &[u8]) -> Result<usize, AllocError>
     ensures { IfOk result (λ after.
         Fills text.old.items used (part.now ∷ []) text.new.items after) }
@@ -186,7 +193,7 @@ const LINE_LENGTH: usize = 70;
 /// A number and a letter.
 type Part = ArrayVec<u8, 48>;
 
-/// A number and a letter, or the letter alone for 1.
+/// Returns a part: the count and the letter, or the letter alone for a count of 1.
 fn counted(count: usize, letter: u8) -> Part
     ensures { result.items ≡ counted count letter }
 {
@@ -200,8 +207,8 @@ fn counted(count: usize, letter: u8) -> Part
     part
 }
 
-/// A state's letter: `b` or `o` if there are two states, or else `.` for 0 and `A` to `O` for 1 to
-/// 15.
+/// Returns a state's letter. It is `b` or `o` if there are two states, or else `.` for 0 and `A` to
+/// `O` for 1 to 15.
 fn letter(states: u8, state: u8) -> u8
     requires { state < most_states }
     ensures { result ≡ letter states state }
@@ -212,7 +219,7 @@ fn letter(states: u8, state: u8) -> u8
     if state == 0 { b'.' } else { 64 + state }
 }
 
-/// The row without the cells of state 0 after its last cell of another state.
+/// Returns the row up to its last cell of another state than 0.
 fn trimmed(row: &[u8]) -> &[u8]
     ensures { result.now ≡ trimmed row.now }
 {
@@ -226,7 +233,7 @@ fn trimmed(row: &[u8]) -> &[u8]
     cells
 }
 
-/// 2 if all cells are 0 or 1, or else 16.
+/// Returns how many states a frame's text has: 2 if all cells are 0 or 1, or else 16.
 fn states_of(frame: &Frame) -> u8
     ensures { result ≡ states_of frame.now }
 {
@@ -240,7 +247,7 @@ fn states_of(frame: &Frame) -> u8
     2
 }
 
-/// Whether each cell is 0 or 1.
+/// Returns whether each cell is 0 or 1.
 fn are_two_states(cells: &[u8]) -> bool
     ensures { result ≡ list_all (λ cell. nat_lt cell 2) cells.now }
 {
@@ -254,7 +261,7 @@ fn are_two_states(cells: &[u8]) -> bool
     true
 }
 
-/// The cells of a row, and zeros after them.
+/// Returns the cells of row `y` of a frame, and zeros after them.
 fn row_cells(frame: &Frame, y: usize) -> [u8; COLUMNS]
     requires { y < length frame.now }
     ensures { take (length frame.now) result ≡ get_or frame.now y [] }
