@@ -9,7 +9,7 @@
 #![tactic(auto)]
 
 use cam6_arguments::{NO_MEMORY, Program, Refused, failed, refuse, words_given};
-use cam6_draw_cli::{DrawOptions, Way, ended, options_of_draw};
+use cam6_draw_cli::{DrawOptions, Way, options_of_draw, report_end};
 use cam6_show_frames::show_frames;
 use cam6_show_pictures::{Netpbm, Terminal};
 use std::env::Env;
@@ -23,7 +23,7 @@ fn main(rt: HostRuntime) -> ExitCode {
     run(&rt)
 }
 
-/// Reads the arguments, and does what they ask for.
+/// Reads the arguments, does what they ask for, and returns the exit status.
 fn run<R: Env + Input + Print + Eprint + AllocGlobal + Clock>(rt: &R) -> ExitCode {
     match options_given(rt) {
         Ok(options) => draw(rt, &options),
@@ -31,13 +31,13 @@ fn run<R: Env + Input + Print + Eprint + AllocGlobal + Clock>(rt: &R) -> ExitCod
     }
 }
 
-/// Returns what the arguments ask for, or why they are refused.
+/// Reads the program's arguments. Returns its options, or why the arguments are refused.
 fn options_given<R: Env + AllocGlobal>(rt: &R) -> Result<DrawOptions, Refused> {
     let words = words_given(rt, Program::Draw)?;
     options_of_draw(rt.alloc(), words.as_slice())
 }
 
-/// Draws the frames of the lines on standard input.
+/// Draws the frames of the replies on standard input, and returns the exit status.
 fn draw<R: Input + Print + Eprint + AllocGlobal + Clock>(
     rt: &R,
     options: &DrawOptions,
@@ -57,10 +57,11 @@ fn draw<R: Input + Print + Eprint + AllocGlobal + Clock>(
             show_frames(alloc, &mut reader, &mut screen)
         }
     };
-    ended(rt, Program::Draw, end)
+    report_end(rt, Program::Draw, end)
 }
 
-/// How long a picture stays if there are at most so many a second. Without a rate it is `None`.
+/// Returns how long a picture stays if there are at most `rate` a second. Without a rate it is
+/// `None`.
 fn pause_of(rate: Option<usize>) -> Option<Duration> {
     match rate {
         Some(rate) => Some(Duration::from_micros(1_000_000 / rate.max(1) as u64)),

@@ -45,7 +45,8 @@ Exit status:
   5  out of memory
   6  too many lines";
 
-/// Returns what the arguments ask for, or why they are refused. The first is the program's name.
+/// Reads the arguments of `cam6_draw`. Returns its options, or why the arguments are refused. The
+/// first word is the program's name.
 pub fn options_of_draw(alloc: Global, words: &[String]) -> Result<DrawOptions, Refused>
     // For a simple command, clap's matches and the kinds of its errors are functions of the words.
     ensures asked { IfOk result (λ options.
@@ -58,29 +59,30 @@ pub fn options_of_draw(alloc: Global, words: &[String]) -> Result<DrawOptions, R
         return Err(Refused::NoMemory);
     };
     match command.try_get_matches_from(words) {
-        Ok(matches) => taken(alloc, &matches),
+        Ok(matches) => read_matches(alloc, &matches),
         Err(error) => Err(refusal(alloc, error, "")),
     }
 }
 
-/// Returns the options of arguments that clap takes, or why they are refused.
-fn taken(alloc: Global, matches: &ArgMatches<'_>) -> Result<DrawOptions, Refused>
+/// Returns the options that clap's matches have, or why the arguments are refused, with a line for
+/// the user.
+fn read_matches(alloc: Global, matches: &ArgMatches<'_>) -> Result<DrawOptions, Refused>
     ensures asked { IfOk result (λ options.
         asked_by (rows_of (found_of matches.now)) ≡ Some options) }
     ensures refused { IfErr result (λ refused.
         IsRefusal refused × (asked_by (rows_of (found_of matches.now)) ≡ None)) }
 {
-    match asked(matches) {
+    match options_of_matches(matches) {
         Ok(options) => Ok(options),
         Err(unsaid) => Err(unasked(format!(in alloc; "cam6_draw: {unsaid}\n"))),
     }
 }
 
-/// What clap's matches ask for.
-fn asked(matches: &ArgMatches<'_>) -> Result<DrawOptions, Unsaid>
+/// Returns the options that clap's matches have, or the first value that is wrong.
+fn options_of_matches(matches: &ArgMatches<'_>) -> Result<DrawOptions, Unsaid>
     ensures { result_ok result ≡ asked_by (rows_of (found_of matches.now)) }
 {
-    all(
+    collect_options(
         way_asked(matches),
         palette_by(text_at(matches, "palette")),
         window_by(texts_at(matches, "crop")),
@@ -88,8 +90,8 @@ fn asked(matches: &ArgMatches<'_>) -> Result<DrawOptions, Unsaid>
     )
 }
 
-/// The options with these four values, or the first error among them.
-fn all(
+/// Collects these four values as options, or returns the first error among them.
+fn collect_options(
     way: Result<Way, Unsaid>,
     palette: Result<[Light; 16], Unsaid>,
     window: Result<Option<Window>, Unsaid>,
@@ -125,7 +127,7 @@ fn all(
     })
 }
 
-/// How pictures are to be written.
+/// Returns how pictures are to be written by clap's matches, or why no way is asked for.
 fn way_asked(matches: &ArgMatches<'_>) -> Result<Way, Unsaid>
     ensures { result_ok result ≡ way_at (rows_of (found_of matches.now)) }
 {
@@ -136,7 +138,9 @@ fn way_asked(matches: &ArgMatches<'_>) -> Result<Way, Unsaid>
     )
 }
 
-/// How pictures are to be written, by whether each way is asked for, and the word at `--frames`.
+/// Returns how pictures are to be written if `--ppm` and `--text` are there or not, and `--frames`
+/// has this word. Exactly one of `--ppm` and `--text` is needed, and `--frames` goes only with
+/// `--text`.
 fn way_of(ppm: bool, text: bool, frames: Option<&str>) -> Result<Way, Unsaid>
     ensures { result_ok result ≡ way_said ppm text (option_map (λ word. word.now) frames.entry) }
 {
@@ -149,8 +153,8 @@ fn way_of(ppm: bool, text: bool, frames: Option<&str>) -> Result<Way, Unsaid>
     }
 }
 
-/// A terminal, with at most as many pictures a second as the word says. Returns an error if that
-/// isn't a whole number from 1 to 1000.
+/// Returns the way that draws on a terminal, with at most as many pictures a second as the word at
+/// `--frames` says. Returns an error if the word isn't a whole number from 1 to 1000.
 fn terminal_at(word: &str) -> Result<Way, Unsaid>
     ensures { result_ok result ≡ way_said false true (Some word.now) }
 {
@@ -160,7 +164,7 @@ fn terminal_at(word: &str) -> Result<Way, Unsaid>
     }
 }
 
-/// Whether the word at a flag is `true`. It is false if there is no word.
+/// Returns whether the word of a flag is `true`. It is false if there is no word.
 fn is_true(word: Option<&str>) -> bool
     ensures { result ≡ is_true_told (option_map (λ word. word.now) word.entry) }
 {
@@ -170,7 +174,8 @@ fn is_true(word: Option<&str>) -> bool
     }
 }
 
-/// The light of each colour, as the word at `--palette` says, or `PALETTE` without a word.
+/// Returns the light of each colour that the word at `--palette` has, or `PALETTE` without a word.
+/// Returns an error for a word that is no palette.
 fn palette_by(word: Option<&str>) -> Result<[Light; 16], Unsaid>
     ensures { result_ok result ≡ palette_told (option_map (λ word. word.now) word.entry) }
 {
@@ -183,7 +188,8 @@ fn palette_by(word: Option<&str>) -> Result<[Light; 16], Unsaid>
     }
 }
 
-/// The part that the words at `--crop` say. Without words it is `None`, the whole torus.
+/// Returns the window that the words at `--crop` have. Without words it is `None`, the whole torus.
+/// Returns an error for words that are no window.
 fn window_by(words: Option<&[&str]>) -> Result<Option<Window>, Unsaid>
     ensures { result_ok result ≡ window_told (option_map (λ words. texts words.now) words.entry) }
 {
@@ -196,7 +202,7 @@ fn window_by(words: Option<&[&str]>) -> Result<Option<Window>, Unsaid>
     }
 }
 
-/// The part that four words say. Returns `None` if they are no part, or not four.
+/// Returns the window that four words have. Returns `None` if they are no window, or not four.
 fn window_of(words: &[&str]) -> Option<Window>
     ensures { result ≡ window_of_words (texts words.now) }
 {
@@ -207,7 +213,8 @@ fn window_of(words: &[&str]) -> Option<Window>
     }
 }
 
-/// The part that four words say, or `None` if one of them is no number within its bounds.
+/// Returns the window with these words as its first column, first row, width and height. Returns
+/// `None` if one of them is no number within its bounds.
 fn window_asked_for(x: &str, y: &str, w: &str, h: &str) -> Option<Window>
     ensures { result ≡ window_asked_for x.now y.now w.now h.now }
 {
@@ -231,7 +238,8 @@ fn window_asked_for(x: &str, y: &str, w: &str, h: &str) -> Option<Window>
     })
 }
 
-/// How many pixels a cell is wide and high, as the word at `--scale` says, or 1 without a word.
+/// Returns how many pixels a cell is wide and high: the number at `--scale`, or 1 without a word.
+/// Returns an error for a word that isn't a number from 1 to 16.
 fn scale_by(word: Option<&str>) -> Result<usize, Unsaid>
     ensures scale { result_ok result ≡ scale_told (option_map (λ word. word.now) word.entry) }
     ensures within { IfOk result (λ scale. (1 ≤ scale) × (scale ≤ 16)) }
@@ -242,7 +250,7 @@ fn scale_by(word: Option<&str>) -> Result<usize, Unsaid>
     }
 }
 
-/// The program's name, help and options, as clap takes them.
+/// Returns clap's description of `cam6_draw`: its name, help and options.
 fn program<'a>(alloc: Global) -> Result<Command<'a>, AllocError>
     ensures { IfOk result (λ command. app_of command ≡ program_of) }
 {
@@ -256,7 +264,7 @@ fn program<'a>(alloc: Global) -> Result<Command<'a>, AllocError>
         .arg(frames_option(alloc))
 }
 
-/// An option that takes no value.
+/// Returns clap's description of an option that takes no value.
 fn flag<'a>(alloc: Global, name: &'a str, help: &'a str) -> Arg<'a>
     ensures rule { rule_of result ≡ flag_of name.now }
     ensures global { result.global ≡ false }
@@ -267,7 +275,7 @@ fn flag<'a>(alloc: Global, name: &'a str, help: &'a str) -> Arg<'a>
         .help(help)
 }
 
-/// `--ppm`.
+/// Returns clap's description of `--ppm`.
 fn ppm_option<'a>(alloc: Global) -> Arg<'a>
     ensures rule { rule_of result ≡ flag_of (codes "ppm") }
     ensures global { result.global ≡ false }
@@ -279,7 +287,7 @@ fn ppm_option<'a>(alloc: Global) -> Arg<'a>
     )
 }
 
-/// `--text`.
+/// Returns clap's description of `--text`.
 fn text_option<'a>(alloc: Global) -> Arg<'a>
     ensures rule { rule_of result ≡ flag_of (codes "text") }
     ensures global { result.global ≡ false }
@@ -291,7 +299,7 @@ fn text_option<'a>(alloc: Global) -> Arg<'a>
     )
 }
 
-/// `--scale`.
+/// Returns clap's description of `--scale`.
 fn scale_option<'a>(alloc: Global) -> Arg<'a>
     ensures rule { rule_of result ≡ option_of (codes "scale") }
     ensures global { result.global ≡ false }
@@ -304,7 +312,7 @@ fn scale_option<'a>(alloc: Global) -> Arg<'a>
     )
 }
 
-/// `--crop`.
+/// Returns clap's description of `--crop`.
 fn crop_option<'a>(alloc: Global) -> Arg<'a>
     ensures rule { rule_of result ≡ option_to_crop }
     ensures global { result.global ≡ false }
@@ -316,7 +324,7 @@ fn crop_option<'a>(alloc: Global) -> Arg<'a>
         .help("Only W columns and H rows from column X and row Y on; the edges wrap round")
 }
 
-/// `--palette`.
+/// Returns clap's description of `--palette`.
 fn palette_option<'a>(alloc: Global) -> Arg<'a>
     ensures rule { rule_of result ≡ option_of (codes "palette") }
     ensures global { result.global ≡ false }
@@ -329,7 +337,7 @@ fn palette_option<'a>(alloc: Global) -> Arg<'a>
     )
 }
 
-/// `--frames`.
+/// Returns clap's description of `--frames`.
 fn frames_option<'a>(alloc: Global) -> Arg<'a>
     ensures rule { rule_of result ≡ option_of (codes "frames") }
     ensures global { result.global ≡ false }

@@ -3,7 +3,7 @@
 //! Contract: `options_of_draw` and `options_of_rle` read the arguments as `clap` takes them
 //! (`specs/DrawWords.antt`, `specs/RleWords.antt`). Arguments are refused only if `clap` has a
 //! fault of them, if they ask for nothing, or if memory runs out (`Refuses` of `cam6_arguments`).
-//! `failure_of` returns each end's exit status with its line (`specs/Statuses.antt`), and `ended`
+//! `failure_of` returns each end's exit status with its line (`specs/Statuses.antt`), and `report_end`
 //! ends with them. `fault_text` says why a text isn't a pattern, and where.
 //!
 //! Stands on: `cam6_arguments`, for options and refusals; `cam6_show_frames`, for the ends;
@@ -23,7 +23,7 @@ mod statuses;
 
 pub use draw_cli::options_of_draw;
 pub use draw_options::{DrawOptions, Way};
-pub use endings::ended;
+pub use endings::report_end;
 pub use rle_cli::options_of_rle;
 pub use rle_options::{Place, RleOptions};
 pub use statuses::{BAD_INPUT, failure_of, fault_text};

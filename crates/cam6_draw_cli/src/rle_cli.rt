@@ -48,7 +48,8 @@ cam6_rle: --planes takes one to four different digits from 0 to 3; --rule takes 
 --replies
 ";
 
-/// Returns what the arguments ask for, or why they are refused. The first is the program's name.
+/// Reads the arguments of `cam6_rle`. Returns its task, or why the arguments are refused. The first
+/// word is the program's name.
 pub fn options_of_rle(alloc: Global, words: &[String]) -> Result<RleOptions, Refused>
     // For the program's command line, wherever the three words of the sides are kept.
     ensures task { IfOk result (λ options. (app : App) × IsProgram app
@@ -67,7 +68,7 @@ pub fn options_of_rle(alloc: Global, words: &[String]) -> Result<RleOptions, Ref
     }
 }
 
-/// What clap's matches ask for.
+/// Returns the task that clap's matches ask for, or why they are refused.
 fn task_given(alloc: Global, matches: &ArgMatches<'_>) -> Result<RleOptions, Refused>
     ensures task { IfOk result (λ options. HasTask options (task_of (rows_of (found_of matches.now)))) }
     ensures refused { IfErr result (λ refused. IsRefusal refused
@@ -85,18 +86,19 @@ fn task_given(alloc: Global, matches: &ArgMatches<'_>) -> Result<RleOptions, Ref
     }
 }
 
-/// Whether the name of a rule is said.
+/// Returns whether `--rule` is there.
 fn names_rule(matches: &ArgMatches<'_>) -> bool
     ensures { result ≡ is_some (first_of (codes "rule") (rows_of (found_of matches.now))) }
 {
     text_at(matches, "rule").is_some()
 }
 
-/// The task of setting a pattern where clap's matches say. Returns `None` if a value is wrong.
+/// Returns the task of placing a pattern where clap's matches say. Returns `None` if a value is
+/// wrong.
 fn place_given(matches: &ArgMatches<'_>) -> Option<RleOptions>
     ensures { MayHaveTask result (place_at (rows_of (found_of matches.now))) }
 {
-    placed(
+    place_task(
         side_at(matches),
         move_given(matches, "column"),
         move_given(matches, "row"),
@@ -104,8 +106,9 @@ fn place_given(matches: &ArgMatches<'_>) -> Option<RleOptions>
     )
 }
 
-/// Where a pattern is set, if all of this is said.
-fn placed(
+/// Returns the task of placing a pattern, with these values. Returns `None` if one of them is
+/// missing.
+fn place_task(
     side: Option<Side>,
     column: Option<usize>,
     row: Option<usize>,
@@ -123,7 +126,8 @@ fn placed(
     }))
 }
 
-/// The columns, or rows, that an option says, or `None` if it says no number from 0 to 511.
+/// Returns how many columns, or rows, the option of this name moves the pattern by. Returns `None`
+/// if its value is no number from 0 to 511.
 fn move_given(matches: &ArgMatches<'_>, name: &str) -> Option<usize>
     ensures value { result ≡ move_at name.now (rows_of (found_of matches.now)) }
     ensures within { IfSome result (λ cells. cells ≤ last_move) }
@@ -132,15 +136,15 @@ fn move_given(matches: &ArgMatches<'_>, name: &str) -> Option<usize>
     Some(cells as usize)
 }
 
-/// The planes that `--planes` says, or `None` if it says none.
+/// Returns the planes at `--planes`, or `None` if its value has none.
 fn planes_given(matches: &ArgMatches<'_>) -> Option<ChosenPlanes>
     ensures { result ≡ planes_at (rows_of (found_of matches.now)) }
 {
     planes_of_word(text_at(matches, "planes")?)
 }
 
-/// The task of writing texts with the name of the rule at `--rule`, or with none if that isn't
-/// said. It is refused if the name has an LF.
+/// Returns the task of writing patterns, whose texts have the rule's name at `--rule`, or none
+/// without it. Refuses a name with an LF.
 fn gather_given(alloc: Global, matches: &ArgMatches<'_>) -> Result<RleOptions, Refused>
     ensures task { IfOk result (λ options. HasTask options (gather_at (rows_of (found_of matches.now)))) }
     ensures refused { IfErr result (λ refused. IsRefusal refused
@@ -156,7 +160,7 @@ fn gather_given(alloc: Global, matches: &ArgMatches<'_>) -> Result<RleOptions, R
     }
 }
 
-/// Whether a text has no LF.
+/// Returns whether a text has no LF.
 fn is_one_line(bytes: &[u8]) -> bool
     ensures { result ≡ is_one_line bytes.now }
 {
@@ -170,14 +174,15 @@ fn is_one_line(bytes: &[u8]) -> bool
     true
 }
 
-/// The refusal of arguments that ask for no task.
+/// Returns the refusal of arguments that ask for no task.
 fn no_task(alloc: Global) -> Refused
     ensures { IsRefusal result }
 {
     unasked(String::from_str(alloc, NO_TASK_TEXT))
 }
 
-/// The planes of a word's one to four different digits, or `None` for any other word.
+/// Returns the planes whose numbers are a word's one to four different digits, or `None` for any
+/// other word.
 fn planes_of_word(word: &str) -> Option<ChosenPlanes>
     ensures { result ≡ planes_said word.now }
 {
@@ -188,7 +193,7 @@ fn planes_of_word(word: &str) -> Option<ChosenPlanes>
     Some(planes_of_digits(digits))
 }
 
-/// Whether bytes are one to four different digits of planes.
+/// Returns whether bytes are one to four different digits from 0 to 3.
 fn says_planes(digits: &[u8]) -> bool
     ensures { result ≡ says_planes digits.now }
 {
@@ -201,7 +206,7 @@ fn says_planes(digits: &[u8]) -> bool
     are_different(digits)
 }
 
-/// Whether bytes are digits of planes.
+/// Returns whether each byte is a digit from 0 to 3.
 fn are_plane_digits(bytes: &[u8]) -> bool
     ensures { result ≡ list_all is_plane_digit bytes.now }
 {
@@ -215,14 +220,14 @@ fn are_plane_digits(bytes: &[u8]) -> bool
     true
 }
 
-/// Whether a byte is the digit of a plane.
+/// Returns whether a byte is a digit from 0 to 3.
 fn is_plane_digit(b: u8) -> bool
     ensures { result ≡ is_plane_digit b }
 {
     (b'0'..=b'3').contains(&b)
 }
 
-/// Whether none of the bytes stands twice.
+/// Returns whether no byte occurs twice.
 fn are_different(bytes: &[u8]) -> bool
     ensures { result ≡ are_different bytes.now }
 {
@@ -236,7 +241,7 @@ fn are_different(bytes: &[u8]) -> bool
     true
 }
 
-/// The planes of one to four different digits, in their order.
+/// Returns the planes with these numbers, one to four different digits, in their order.
 fn planes_of_digits(digits: &[u8]) -> ChosenPlanes
     requires { says_planes digits.now ≡ true }
     ensures { result ≡ map (λ b. b - 48) digits.now }
@@ -251,7 +256,7 @@ fn planes_of_digits(digits: &[u8]) -> ChosenPlanes
     ChosenPlanes::new(count, planes)
 }
 
-/// The program's name, help and options, as clap takes them.
+/// Returns clap's description of `cam6_rle`: its name, help and options.
 fn program<'a>(alloc: Global) -> Result<Command<'a>, AllocError>
     ensures { IfOk result (λ command. IsProgram (app_of command)) }
 {
@@ -266,7 +271,7 @@ fn program<'a>(alloc: Global) -> Result<Command<'a>, AllocError>
         .arg(rule_option(alloc))
 }
 
-/// `--column` or `--row`.
+/// Returns clap's description of `--column` or `--row`.
 fn move_option<'a>(alloc: Global, name: &'a str) -> Arg<'a>
     ensures rule { rule_of result ≡ option_of_moves name.now }
     ensures global { result.global ≡ false }
@@ -274,7 +279,7 @@ fn move_option<'a>(alloc: Global, name: &'a str) -> Arg<'a>
     number_option(alloc, name, 0, LAST_MOVE, "0").help("How far the pattern is moved")
 }
 
-/// `--planes`.
+/// Returns clap's description of `--planes`.
 fn planes_option<'a>(alloc: Global) -> Arg<'a>
     ensures rule { rule_of result ≡ option_of_planes }
     ensures global { result.global ≡ false }
@@ -285,7 +290,7 @@ fn planes_option<'a>(alloc: Global) -> Arg<'a>
         .help("The planes for a state's bits, one digit each, the lowest bit first")
 }
 
-/// `--replies`.
+/// Returns clap's description of `--replies`.
 fn replies_option<'a>(alloc: Global) -> Arg<'a>
     ensures rule { rule_of result ≡ option_of_replies }
     ensures global { result.global ≡ false }
@@ -296,7 +301,7 @@ fn replies_option<'a>(alloc: Global) -> Arg<'a>
         .help("Reads replies, and writes a text for each picture")
 }
 
-/// `--rule`.
+/// Returns clap's description of `--rule`.
 fn rule_option<'a>(alloc: Global) -> Arg<'a>
     ensures rule { rule_of result ≡ option_of_rules }
     ensures global { result.global ≡ false }

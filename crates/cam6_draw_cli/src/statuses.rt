@@ -15,8 +15,9 @@ pub const BAD_INPUT: u8 = 3;
 /// More lines than can be counted.
 pub const TOO_MANY_LINES: u8 = 6;
 
-/// Returns the exit status of an end that is a failure, and its line for standard error. In place
-/// of the line is an error if an allocation for it failed. Returns `None` for any other end.
+/// Returns the exit status of an end that is a failure, and its line for standard error. If an
+/// allocation for the line failed, that error is in its place. Returns `None` for an end that is no
+/// failure.
 pub fn failure_of(
     alloc: Global,
     program: Program,
@@ -48,7 +49,7 @@ pub fn failure_of(
     Some((status, text))
 }
 
-/// A text after the program's name and the number of a line.
+/// Returns a message: the program's name, the number of a line, and then this text.
 fn at_line(alloc: Global, program: Program, line: u64, text: &str) -> Result<String, AllocError>
     ensures { IfOk result (λ told. string_bytes told ≡ at_line_told program line text.now) }
 {
@@ -56,7 +57,7 @@ fn at_line(alloc: Global, program: Program, line: u64, text: &str) -> Result<Str
     format!(in alloc; "{name}: line {line}{text}")
 }
 
-/// Returns the line that says why a text isn't a pattern, and where.
+/// Returns the line for the user that reports why and where a text isn't a pattern.
 pub fn fault_text(alloc: Global, fault: PatternFault) -> Result<String, AllocError>
     ensures { IfOk result (λ told. string_bytes told ≡ fault_told fault) }
 {
@@ -65,14 +66,14 @@ pub fn fault_text(alloc: Global, fault: PatternFault) -> Result<String, AllocErr
     at_line(alloc, Program::Rle, fault.line as u64, text.as_str())
 }
 
-/// A text after the number of a column.
+/// Returns a part of a message: the number of a column, and then this text.
 fn at_column(alloc: Global, column: usize, text: &str) -> Result<String, AllocError>
     ensures { IfOk result (λ told. string_bytes told ≡ column_told column text.now) }
 {
     format!(in alloc; ", column {column}{text}")
 }
 
-/// Why a text isn't a pattern: the last part of the line that says so, with its LF.
+/// Returns the last part of the line that reports why a text isn't a pattern, with its LF.
 fn cause_text(alloc: Global, cause: Cause) -> Result<String, AllocError>
     ensures { IfOk result (λ told. string_bytes told ≡ cause_told cause) }
 {

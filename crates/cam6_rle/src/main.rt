@@ -13,7 +13,7 @@ ghost use Rattle.std.specs.Prelude.{◌≡◌};
 ghost use Rattle.std.specs.Process.{exit_status};
 
 use cam6_arguments::{NO_MEMORY, Program, Refused, failed, refuse, words_given};
-use cam6_draw_cli::{BAD_INPUT, Place, RleOptions, ended, fault_text, options_of_rle};
+use cam6_draw_cli::{BAD_INPUT, Place, RleOptions, fault_text, options_of_rle, report_end};
 use cam6_patterns::{Pattern, PatternFault, PatternTexts, Unread, read_pattern, write_placed};
 use cam6_show_frames::{End, Unshown, show_frames};
 use std::env::Env;
@@ -26,40 +26,45 @@ fn main(rt: HostRuntime) -> ExitCode {
     run(&rt)
 }
 
-/// Reads the arguments, and does what they ask for.
+/// Reads the arguments, does what they ask for, and returns the exit status.
 fn run<R: Env + Input + Print + Eprint + AllocGlobal>(rt: &R) -> ExitCode {
     match options_given(rt) {
-        Ok(RleOptions::Place(place)) => placed(rt, &place),
-        Ok(RleOptions::Gather { rule }) => gathered(rt, rule),
+        Ok(RleOptions::Place(place)) => place_pattern(rt, &place),
+        Ok(RleOptions::Gather { rule }) => gather_patterns(rt, rule),
         Err(refused) => refuse(rt, Program::Rle, &refused),
     }
 }
 
-/// Returns what the arguments ask for, or why they are refused.
+/// Reads the program's arguments. Returns its task, or why the arguments are refused.
 fn options_given<R: Env + AllocGlobal>(rt: &R) -> Result<RleOptions, Refused> {
     let words = words_given(rt, Program::Rle)?;
     options_of_rle(rt.alloc(), words.as_slice())
 }
 
-/// Writes the lines that set the pattern on standard input.
-fn placed<R: Input + Print + Eprint + AllocGlobal>(rt: &R, place: &Place) -> ExitCode {
+/// Reads a pattern from standard input, and prints the command lines that set it at this place.
+/// Returns the exit status.
+fn place_pattern<R: Input + Print + Eprint + AllocGlobal>(rt: &R, place: &Place) -> ExitCode {
     let alloc = rt.alloc();
     let mut text = Vec::new(alloc);
     if let Err(e) = rt.reader().read_to_end(&mut text) {
         return match e.kind() {
-            ErrorKind::OutOfMemory => ended(rt, Program::Rle, End::NoMemory),
-            _ => ended(rt, Program::Rle, End::ReadFault),
+            ErrorKind::OutOfMemory => report_end(rt, Program::Rle, End::NoMemory),
+            _ => report_end(rt, Program::Rle, End::ReadFault),
         };
     }
     match read_pattern(alloc, place.side, place.planes.states(), text.as_slice()) {
-        Ok(pattern) => written(rt, place, &pattern),
-        Err(Unread::Fault(fault)) => misread(rt, fault),
-        Err(Unread::NoMemory) => ended(rt, Program::Rle, End::NoMemory),
+        Ok(pattern) => write_pattern(rt, place, &pattern),
+        Err(Unread::Fault(fault)) => report_fault(rt, fault),
+        Err(Unread::NoMemory) => report_end(rt, Program::Rle, End::NoMemory),
     }
 }
 
-/// Writes the lines that set a pattern.
-fn written<R: Print + Eprint + AllocGlobal>(rt: &R, place: &Place, pattern: &Pattern) -> ExitCode {
+/// Prints the command lines that set a pattern at this place, and returns the exit status.
+fn write_pattern<R: Print + Eprint + AllocGlobal>(
+    rt: &R,
+    place: &Place,
+    pattern: &Pattern,
+) -> ExitCode {
     let mut writer = io::writer(rt);
     let done = write_placed(
         &mut writer,
@@ -70,14 +75,14 @@ fn written<R: Print + Eprint + AllocGlobal>(rt: &R, place: &Place, pattern: &Pat
         pattern,
     );
     match done {
-        Ok(()) => ended(rt, Program::Rle, End::EndOfInput),
-        Err(Unshown::WriteFault) => ended(rt, Program::Rle, End::WriteFault),
-        Err(Unshown::NoMemory) => ended(rt, Program::Rle, End::NoMemory),
+        Ok(()) => report_end(rt, Program::Rle, End::EndOfInput),
+        Err(Unshown::WriteFault) => report_end(rt, Program::Rle, End::WriteFault),
+        Err(Unshown::NoMemory) => report_end(rt, Program::Rle, End::NoMemory),
     }
 }
 
-/// Prints why the text isn't a pattern, and where, and returns exit status 3.
-fn misread<R: Eprint + AllocGlobal>(rt: &R, fault: PatternFault) -> ExitCode
+/// Prints why and where the text isn't a pattern to standard error, and returns exit status 3.
+fn report_fault<R: Eprint + AllocGlobal>(rt: &R, fault: PatternFault) -> ExitCode
     ensures { exit_status result ≡ 3 }
 {
     match fault_text(rt.alloc(), fault) {
@@ -86,13 +91,14 @@ fn misread<R: Eprint + AllocGlobal>(rt: &R, fault: PatternFault) -> ExitCode
     }
 }
 
-/// Writes a text for each frame of the replies on standard input.
-fn gathered<R: Input + Print + Eprint + AllocGlobal>(rt: &R, rule: String) -> ExitCode {
+/// Prints the text of a pattern for each frame of the replies on standard input. The texts have
+/// this rule's name. Returns the exit status.
+fn gather_patterns<R: Input + Print + Eprint + AllocGlobal>(rt: &R, rule: String) -> ExitCode {
     let alloc = rt.alloc();
     let Ok(mut reader) = BufReader::new(alloc, rt.reader()) else {
         return failed(rt, NO_MEMORY, Program::Rle.no_memory());
     };
     let mut screen = PatternTexts::new(alloc, io::writer(rt), rule);
     let end = show_frames(alloc, &mut reader, &mut screen);
-    ended(rt, Program::Rle, end)
+    report_end(rt, Program::Rle, end)
 }

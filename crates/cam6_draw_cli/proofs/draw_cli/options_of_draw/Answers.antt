@@ -12,7 +12,7 @@ returns-in-Ok-try_get_matches_from-clause-asked c =
     let taken = c.in-Ok-try_get_matches_from in
     asked_as_clap_takes program (app_of c.in-Ok.command) _ c.in-Ok.ensures program_is_free
     program_is_simple taken.matches taken.ensures.matches taken.ensures.kinds
-    (λ options rows. asked rows ≡ Some options) c.taken.result c.taken.ensures.asked
+    (λ options rows. asked rows ≡ Some options) c.read_matches.result c.read_matches.ensures.asked
 
 pub returns-in-Ok-try_get_matches_from-clause-refused :
     goal.returns-in-Ok-try_get_matches_from-clause-refused
@@ -20,8 +20,8 @@ returns-in-Ok-try_get_matches_from-clause-refused c =
     let taken = c.in-Ok-try_get_matches_from in
     refused_as_unsaid program (app_of c.in-Ok.command) _ c.in-Ok.ensures program_is_free
     program_is_simple taken.matches taken.ensures.matches taken.ensures.kinds
-    (λ rows. asked rows ≡ None) c.taken.result
-    (IfErr-weaker c.taken.result _ _ (λ refused why. (why.0, inl why.1)) c.taken.ensures.refused)
+    (λ rows. asked rows ≡ None) c.read_matches.result
+    (IfErr-weaker c.read_matches.result _ _ (λ refused why. (why.0, inl why.1)) c.read_matches.ensures.refused)
 
 pub returns-in-Err-clause-refused : goal.returns-in-Err-clause-refused
 returns-in-Err-clause-refused c =
