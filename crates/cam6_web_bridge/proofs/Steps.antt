@@ -7,7 +7,7 @@ use Rattle.cam6_web_bridge.specs.Bridges.{Exchanges, Heard, IsCarried, IsWaitedO
 use Rattle.cam6_web_bridge.specs.Bridges.{Bridges, BridgesUntil, max_silences, max_rounds, silences}
 use Rattle.cam6_web_bridge.specs.declared.carrying.End.{End}
 use Rattle.cam6_web_bridge.specs.declared.carrying.End.TheVariants as end
-use Rattle.cam6_web_bridge.specs.declared.pages.Said.TheVariants as said
+use Rattle.cam6_web_bridge.specs.declared.pages.PageInput.TheVariants as said
 
 -- a bridge so far, after so many silences in a row, with so many rounds left
 pub record IsSoFar {P H : Type 0} (page : PageWays P) (host : HostWays H) (s : P) (h : H)

@@ -6,7 +6,7 @@ use Rattle.cam6_web_bridge.specs.Lines.{IsLine, max_message}
 use Rattle.cam6_web_bridge.specs.Pages.{PageWays}
 use Rattle.cam6_web_bridge.specs.declared.carrying.End.{End}
 use Rattle.cam6_web_bridge.specs.declared.carrying.End.TheVariants as end
-use Rattle.cam6_web_bridge.specs.declared.pages.Said.TheVariants as said
+use Rattle.cam6_web_bridge.specs.declared.pages.PageInput.TheVariants as said
 
 -- what came of what was heard last: a line that the host answered by this text, which was sent; a
 -- sign of life; or nothing was heard, and a ping was sent

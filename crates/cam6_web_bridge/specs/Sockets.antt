@@ -16,8 +16,8 @@ use Rattle.websocket.specs.declared.error.ProtocolError.TheVariants.{ResetWithou
 use Rattle.websocket.specs.declared.protocol.config.Role.TheVariants.{Server}
 use Rattle.cam6_web_bridge.specs.Lines.{max_message}
 use Rattle.cam6_web_bridge.specs.Pages.{PageWays}
-use Rattle.cam6_web_bridge.specs.declared.pages.Said.{Said}
-use Rattle.cam6_web_bridge.specs.declared.pages.Said.TheVariants as said
+use Rattle.cam6_web_bridge.specs.declared.pages.PageInput.{PageInput}
+use Rattle.cam6_web_bridge.specs.declared.pages.PageInput.TheVariants as said
 use Rattle.cam6_web_bridge.specs.declared.pages.Unheard.{Unheard}
 use Rattle.cam6_web_bridge.specs.declared.pages.Unheard.TheVariants as unheard
 use Rattle.cam6_web_bridge.specs.declared.pages.Unsent.{Unsent}
@@ -25,14 +25,14 @@ use Rattle.cam6_web_bridge.specs.declared.pages.Unsent.TheVariants as unsent
 
 -- what is meant by an error of the stream: silence if nothing came in time, or that the page can't be
 -- heard any more
-abbrev pub meaning_of_kind : ErrorKind → Result Said Unheard
+abbrev pub meaning_of_kind : ErrorKind → Result PageInput Unheard
 meaning_of_kind WouldBlock = Ok said.Nothing
 meaning_of_kind TimedOut = Ok said.Nothing
 meaning_of_kind HostUnreachable = Err unheard.HostGone
 meaning_of_kind _ = Err unheard.Lost
 
 -- what is meant by an error of a read
-abbrev pub meaning_of_error : Error → Result Said Unheard
+abbrev pub meaning_of_error : Error → Result PageInput Unheard
 meaning_of_error (error.Io cause) = meaning_of_kind (error_kind cause)
 meaning_of_error error.ConnectionClosed = Err unheard.Closed
 meaning_of_error (error.Protocol ResetWithoutClosingHandshake) = Err unheard.Lost
@@ -42,7 +42,7 @@ meaning_of_error error.OutOfMemory = Err unheard.NoMemory
 meaning_of_error _ = Err unheard.Protocol
 
 -- what is meant by what was read: only a text is handed on
-abbrev pub meaning_of : Result Message Error → Result Said Unheard
+abbrev pub meaning_of : Result Message Error → Result PageInput Unheard
 meaning_of (Ok (message.Text line)) = Ok (said.Text line)
 meaning_of (Ok (message.Ping bytes)) = Ok said.Life
 meaning_of (Ok (message.Pong bytes)) = Ok said.Life
@@ -69,12 +69,12 @@ module _ {S : Type 0} where
     pub frame : s.conn.config.max_frame_size ≡ Some max_message
 
   -- what a read gave has this meaning
-  abbrev pub Listens : (S → Option (List ℕ)) → Result Said Unheard → Socket S → Socket S → Type 0
+  abbrev pub Listens : (S → Option (List ℕ)) → Result PageInput Unheard → Socket S → Socket S → Type 0
   Listens remaining heard s t =
       (read : Result Message Error) × Reads remaining s t read × (heard ≡ meaning_of read)
 
   -- all that waited was sent, and then this was heard; or it couldn't be sent
-  abbrev pub Hearing : (S → Option (List ℕ)) → (S → Option (List ℕ)) → Result Said Unheard
+  abbrev pub Hearing : (S → Option (List ℕ)) → (S → Option (List ℕ)) → Result PageInput Unheard
       → Socket S → Socket S → Type 0
   Hearing remaining contents heard s t =
       ((between : Socket S) × Flushed contents s between × (between.output ≡ []) ×

@@ -8,8 +8,9 @@ use crate::sockets::{Paced, SocketPage};
 use std::alloc::Global;
 use std::io::{Read, Write};
 
-/// Carries the messages of a page whose handshake is done to a host, and its answers back. Then tells
-/// the page of the end. `unread` was read after the handshake.
+/// Carries the messages of a page to a host, and the host's answers back, until the bridge ends.
+/// Then sends the page a close with the reason, and returns how the bridge ended. The stream's
+/// handshake is done, and `unread` was read after it.
 pub fn bridge<S: Read + Write + Paced + Drop, H: Host>(
     alloc: Global,
     stream: S,
@@ -27,7 +28,8 @@ pub fn bridge<S: Read + Write + Paced + Drop, H: Host>(
     end
 }
 
-/// Tells a page whose handshake is done why it is turned away.
+/// Sends a page a close with the reason why it is turned away. The stream's handshake is done, and
+/// `unread` was read after it.
 pub fn turn_away<S: Read + Write + Paced + Drop>(
     alloc: Global,
     stream: S,

@@ -6,7 +6,7 @@ ghost use Rattle.cam6_web_bridge.specs.Bridges.{Exchanges, IsCarried, IsSentOn, 
 ghost use Rattle.cam6_web_bridge.specs.Bridges.{max_silences};
 
 use crate::hosts::{Answer, Host, MESSAGE_LIMIT, Silence};
-use crate::pages::{Page, Said, Unheard, Unsent};
+use crate::pages::{Page, PageInput, Unheard, Unsent};
 
 /// How often in a row a page may be silent before the bridge ends.
 const SILENCES: u8 = 3;
@@ -37,8 +37,8 @@ pub enum End {
     TurnBound,
 }
 
-/// Hands each text of the page to the host as a line, and sends the host's answer to it as a text,
-/// until something ends the bridge. Sends a ping after each silence.
+/// Hands each text of the page to the host as a line, and sends the host's answer to it as a text.
+/// Sends a ping after each silence. Returns how the bridge ends.
 pub fn carry<P: Page, H: Host>(page: &mut P, host: &mut H) -> End
     ensures { BridgesUntil P.speaking H.answering result
         (P.stands page.old) (H.stands host.old) (P.stands page.new) (H.stands host.new) }
@@ -55,26 +55,28 @@ pub fn carry<P: Page, H: Host>(page: &mut P, host: &mut H) -> End
     End::TurnBound
 }
 
-/// Hears what the page says next, and carries it. Returns how often in a row the page was silent.
+/// Receives the next message of the page, hands a text to the host, and sends its answer.
+/// `silences` is how often in a row the page was silent before. Returns this number after it, or
+/// how the bridge ends.
 fn exchange<P: Page, H: Host>(page: &mut P, host: &mut H, silences: u8) -> Result<u8, End>
     requires { silences < max_silences }
     ensures { Exchanges P.speaking H.answering result silences
         (P.stands page.old) (H.stands host.old) (P.stands page.new) (H.stands host.new) }
 {
     match page.hear() {
-        Ok(Said::Text(text)) => match carry_line(page, host, text.as_str().as_bytes()) {
+        Ok(PageInput::Text(text)) => match carry_line(page, host, text.as_str().as_bytes()) {
             Ok(()) => Ok(0),
             Err(end) => Err(end),
         },
-        Ok(Said::Life) => Ok(0),
-        Ok(Said::Nothing) => wait_on(page, silences),
+        Ok(PageInput::Life) => Ok(0),
+        Ok(PageInput::Nothing) => ping_silent_page(page, silences),
         Err(why) => Err(End::Unheard(why)),
     }
 }
 
-/// Sends a ping to a page that was silent again, after so many silences in a row. Returns how many
-/// there are now. At the third the bridge ends without a ping.
-fn wait_on<P: Page>(page: &mut P, silences: u8) -> Result<u8, End>
+/// Sends a ping to a page that was silent once more, after `silences` silences in a row. Returns
+/// how many silences there are now. At the third the bridge ends without a ping.
+fn ping_silent_page<P: Page>(page: &mut P, silences: u8) -> Result<u8, End>
     requires { silences < max_silences }
     ensures { IsWaitedOn P.speaking result silences (P.stands page.old) (P.stands page.new) }
 {
@@ -87,7 +89,8 @@ fn wait_on<P: Page>(page: &mut P, silences: u8) -> Result<u8, End>
     }
 }
 
-/// Hands a text to the host, if it is a line, and sends the answer.
+/// Hands a text of the page to the host, and sends the page the answer. Returns how the bridge ends
+/// if the text isn't one line, if it is too long, or if a part of this fails.
 fn carry_line<P: Page, H: Host>(page: &mut P, host: &mut H, line: &[u8]) -> Result<(), End>
     ensures { IsCarried P.speaking H.answering result line.now
         (P.stands page.old) (H.stands host.old) (P.stands page.new) (H.stands host.new) }
@@ -104,7 +107,8 @@ fn carry_line<P: Page, H: Host>(page: &mut P, host: &mut H, line: &[u8]) -> Resu
     }
 }
 
-/// Sends the page an answer as a text, if it is one.
+/// Sends the page a host's answer as a text. Returns how the bridge ends if the answer isn't UTF-8,
+/// or can't be sent.
 fn send_answer<P: Page>(page: &mut P, answer: Answer) -> Result<(), End>
     ensures { IsSentOn P.speaking result (answer_bytes answer)
         (P.stands page.old) (P.stands page.new) }
@@ -122,7 +126,7 @@ fn send_answer<P: Page>(page: &mut P, answer: Answer) -> Result<(), End>
     }
 }
 
-/// Whether no byte of a text is an LF.
+/// Returns whether no byte of a text is an LF.
 fn has_no_lf(text: &[u8]) -> bool
     ensures { IsTrue result ↔ HasNoLf text.now }
 {

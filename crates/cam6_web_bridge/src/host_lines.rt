@@ -17,7 +17,8 @@ pub struct HostLines<R, W> {
 }
 
 impl<R: BufRead, W: Write> HostLines<R, W> {
-    /// The host that reads what is written to `writer`, and writes what is read from `reader`.
+    /// Makes a host of two streams: lines are written to `writer`, and their answers are read from
+    /// `reader`.
     pub fn new(alloc: Global, reader: R, writer: W) -> HostLines<R, W>
         ensures reader { result.reader ≡ reader }
         ensures writer { result.writer ≡ writer }
@@ -39,14 +40,14 @@ impl<R: BufRead, W: Write> Host for HostLines<R, W> {
 
     ghost answering = { by_lines };
 
-    /// Hands a line over with its LF, and takes the next line as its answer.
+    /// Writes a line with its LF, and returns the next line that is read as its answer.
     fn ask(&mut self, line: &[u8]) -> Result<Answer, Silence> {
         hand_over(self.alloc, &mut self.writer, line)?;
         Ok(Answer::Made(next_answer(self.alloc, &mut self.reader)?))
     }
 }
 
-/// Writes a line with its LF.
+/// Writes a line with its LF to the host's stream.
 fn hand_over<W: Write>(alloc: Global, writer: &mut W, line: &[u8]) -> Result<(), Silence>
     ensures { Hands result (W.contents writer.old) line.now (W.contents writer.new) }
 {
@@ -59,7 +60,7 @@ fn hand_over<W: Write>(alloc: Global, writer: &mut W, line: &[u8]) -> Result<(),
     }
 }
 
-/// A line with its LF.
+/// Returns a copy of a line with an LF after it.
 fn with_lf(alloc: Global, line: &[u8]) -> Result<Vec<u8>, AllocError>
     ensures { IfOk result (λ whole. whole.items ≡ sent_line line.now) }
 {
@@ -69,8 +70,8 @@ fn with_lf(alloc: Global, line: &[u8]) -> Result<Vec<u8>, AllocError>
     Ok(whole)
 }
 
-/// Reads a line, and returns it without its LF. If the reader ends before an LF, the error is
-/// `Ended`.
+/// Reads a line of the host, and returns it without its LF. If the reader ends before an LF, the
+/// error is `Ended`.
 fn next_answer<R: BufRead>(alloc: Global, reader: &mut R) -> Result<Vec<u8>, Silence>
     ensures answer { IfOk result (λ answer.
         Takes (R.remaining reader.old) answer.items (R.remaining reader.new)) }

@@ -33,6 +33,6 @@ pub use bridging::{bridge, turn_away};
 pub use carrying::{End, carry};
 pub use host_lines::HostLines;
 pub use hosts::{Answer, Host, MESSAGE_LIMIT, Silence};
-pub use pages::{Page, Said, Unheard, Unsent};
+pub use pages::{Page, PageInput, Unheard, Unsent};
 pub use partings::{Away, farewell, farewell_away};
 pub use sockets::{Pace, Paced, SocketPage};

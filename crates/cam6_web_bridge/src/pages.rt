@@ -4,7 +4,7 @@ use tungstenite::Utf8Bytes;
 
 /// What was heard of a page.
 #[derive(Debug, Drop)]
-pub enum Said {
+pub enum PageInput {
     /// A text.
     Text(Utf8Bytes),
     /// A ping or a pong: the page is there.
@@ -59,8 +59,9 @@ pub trait Page {
     /// How it is heard and is sent messages, and how that fails.
     ghost speaking: { PageWays state };
 
-    /// Hears what the page says next.
-    fn hear(&mut self) -> Result<Said, Unheard>
+    /// Receives what the page sends next: a text, a sign of life, or nothing for too long. An error
+    /// says why nothing can be received any more.
+    fn hear(&mut self) -> Result<PageInput, Unheard>
         ensures heard { IfOk result (λ said.
             speaking.hears (stands self.old) said (stands self.new)) }
         ensures unheard { IfErr result (λ why.
@@ -73,7 +74,7 @@ pub trait Page {
         ensures unsent { IfErr result (λ why.
             speaking.unsent (stands self.old) (string_bytes text) why (stands self.new)) };
 
-    /// Sends the page a text that is always the same, which is not copied.
+    /// Sends the page a constant text. The text is not copied.
     fn send_fixed(&mut self, text: &'static str) -> Result<(), Unsent>
         ensures sent { OnOk result (speaking.sends (stands self.old) text.now (stands self.new)) }
         ensures unsent { IfErr result (λ why.

@@ -14,7 +14,7 @@ use crate::sockets::{Pace, Paced, SocketPage};
 use std::io::{Read, Write};
 use tungstenite::{CloseCode, CloseFrame, Error, MaskKeys, Utf8Bytes};
 
-/// Returns the code and the reason with which the page is told of an end.
+/// Returns the close code and the reason that are sent to a page if its bridge ends so.
 pub fn farewell(end: End) -> (CloseCode, &'static str)
     ensures { (result.0, result.1.now) ≡ farewell_told end }
 {
@@ -32,7 +32,7 @@ pub fn farewell(end: End) -> (CloseCode, &'static str)
     }
 }
 
-/// The same for a page that can't be heard.
+/// Returns the close code and the reason for a page from which nothing can be received any more.
 fn farewell_unheard(why: Unheard) -> (CloseCode, &'static str)
     ensures { (result.0, result.1.now) ≡ farewell_of_the_unheard why }
 {
@@ -48,7 +48,7 @@ fn farewell_unheard(why: Unheard) -> (CloseCode, &'static str)
     }
 }
 
-/// The same for a message that wasn't sent.
+/// Returns the close code and the reason for a page to which a message could not be sent.
 fn farewell_unsent(why: Unsent) -> (CloseCode, &'static str)
     ensures { (result.0, result.1.now) ≡ farewell_of_the_unsent why }
 {
@@ -68,7 +68,7 @@ pub enum Away {
     NoMemory,
 }
 
-/// Returns the code and the reason with which a page is turned away.
+/// Returns the close code and the reason for a page that is turned away.
 pub fn farewell_away(why: Away) -> (CloseCode, &'static str)
     ensures { (result.0, result.1.now) ≡ farewell_of_the_away why }
 {
@@ -79,7 +79,7 @@ pub fn farewell_away(why: Away) -> (CloseCode, &'static str)
 }
 
 impl<S: Read + Write + Paced + Drop, K: MaskKeys + Drop> SocketPage<S, K> {
-    /// Sends a close with a code and a reason.
+    /// Sends the page a WebSocket close with this code and reason.
     pub fn send_close(&mut self, code: CloseCode, reason: &'static str) -> Result<(), Error>
         ensures { OnOk result (Writes S.contents self.old.socket self.new.socket
             (close_step self.old.socket.conn (Some (code, reason.now)))) }

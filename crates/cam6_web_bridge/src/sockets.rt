@@ -9,7 +9,7 @@ ghost use Rattle.cam6_web_bridge.specs.Sockets.{meaning_of_kind as what_a_kind_m
 ghost use Rattle.cam6_web_bridge.specs.Sockets.{reason_unsent as reason_of};
 
 use crate::hosts::MESSAGE_LIMIT;
-use crate::pages::{Page, Said, Unheard, Unsent};
+use crate::pages::{Page, PageInput, Unheard, Unsent};
 use bytes::Bytes;
 use std::alloc::Global;
 use std::io::{ErrorKind, Read, Write};
@@ -35,7 +35,7 @@ pub enum Pace {
 /// A read fails with `WouldBlock` or `TimedOut` if nothing came in time, and with `HostUnreachable` if
 /// the host is gone meanwhile.
 pub trait Paced {
-    /// Says what the calls from here on are for. The time that they may take begins now.
+    /// Sets what the next calls are for, and so how long they may take. This time begins now.
     fn pace(&self, pace: Pace);
 }
 
@@ -46,7 +46,8 @@ pub struct SocketPage<S, K> {
 }
 
 impl<S: Drop> SocketPage<S, NoMask> {
-    /// The page at the other end of a stream. `unread` was read after the handshake.
+    /// Makes the page at the other end of a stream. The stream's handshake is done, and `unread`
+    /// was read after it.
     pub fn new(alloc: Global, stream: S, unread: Vec<u8>) -> SocketPage<S, NoMask>
         ensures { IsNew stream unread.items result.socket }
     {
@@ -77,8 +78,8 @@ impl<S: Read + Write + Paced + Drop, K: MaskKeys + Drop> Page for SocketPage<S, 
 
     ghost speaking = { by_socket S.remaining S.contents };
 
-    /// Sends what still waits to be sent, and hears what the page says next.
-    fn hear(&mut self) -> Result<Said, Unheard> {
+    /// Sends the bytes that still wait, and receives what the page sends next.
+    fn hear(&mut self) -> Result<PageInput, Unheard> {
         hear(&mut self.socket)
     }
 
@@ -87,7 +88,7 @@ impl<S: Read + Write + Paced + Drop, K: MaskKeys + Drop> Page for SocketPage<S, 
         send_text(&mut self.socket, text)
     }
 
-    /// Sends the page a text that is always the same, which is not copied.
+    /// Sends the page a constant text. The text is not copied.
     fn send_fixed(&mut self, text: &'static str) -> Result<(), Unsent> {
         send_message(
             &mut self.socket,
@@ -104,19 +105,19 @@ impl<S: Read + Write + Paced + Drop, K: MaskKeys + Drop> Page for SocketPage<S, 
 /// Sends what still waits to be sent, and hears what the page says next.
 fn hear<S: Read + Write + Paced + Drop, K: MaskKeys + Drop>(
     socket: &mut WebSocket<S, K>,
-) -> Result<Said, Unheard>
+) -> Result<PageInput, Unheard>
     ensures { Hearing S.remaining S.contents result socket.old socket.new }
 {
     match send_rest(socket) {
         Ok(()) => {
             socket.get_ref().pace(Pace::Listening);
-            listen(socket)
+            receive_message(socket)
         }
         Err(why) => Err(why),
     }
 }
 
-/// Sends what still waits to be sent.
+/// Sends the bytes that still wait to be sent. The error is `Lost` if that fails.
 fn send_rest<S: Read + Write + Paced + Drop, K: MaskKeys + Drop>(
     socket: &mut WebSocket<S, K>,
 ) -> Result<(), Unheard>
@@ -131,32 +132,34 @@ fn send_rest<S: Read + Write + Paced + Drop, K: MaskKeys + Drop>(
     }
 }
 
-/// Hears what the page says next.
-fn listen<S: Read + Write + Drop, K: MaskKeys + Drop>(
+/// Receives the next message of the page, and returns it as the page's input.
+fn receive_message<S: Read + Write + Drop, K: MaskKeys + Drop>(
     socket: &mut WebSocket<S, K>,
-) -> Result<Said, Unheard>
+) -> Result<PageInput, Unheard>
     ensures { Listens S.remaining result socket.old socket.new }
 {
     let read = socket.read();
     meaning_of(read)
 }
 
-/// What is meant by what was read.
-fn meaning_of(read: Result<Message, Error>) -> Result<Said, Unheard>
+/// Returns what a read of the socket means: the page's input, or why nothing can be received any
+/// more.
+fn meaning_of(read: Result<Message, Error>) -> Result<PageInput, Unheard>
     ensures { result ≡ what_is_meant read }
 {
     match read {
-        Ok(Message::Text(text)) => Ok(Said::Text(text)),
-        Ok(Message::Ping(_)) => Ok(Said::Life),
-        Ok(Message::Pong(_)) => Ok(Said::Life),
+        Ok(Message::Text(text)) => Ok(PageInput::Text(text)),
+        Ok(Message::Ping(_)) => Ok(PageInput::Life),
+        Ok(Message::Pong(_)) => Ok(PageInput::Life),
         Ok(Message::Binary(_)) => Err(Unheard::NotText),
         Ok(Message::Close(_)) => Err(Unheard::Closed),
         Err(error) => meaning_of_error(&error),
     }
 }
 
-/// What is meant by an error of a read.
-fn meaning_of_error(error: &Error) -> Result<Said, Unheard>
+/// Returns what a read's error means: silence if nothing came in time, or else why nothing can be
+/// received any more.
+fn meaning_of_error(error: &Error) -> Result<PageInput, Unheard>
     ensures { result ≡ what_an_error_means error.now }
 {
     match error {
@@ -170,19 +173,20 @@ fn meaning_of_error(error: &Error) -> Result<Said, Unheard>
     }
 }
 
-/// The same for an error of the stream. It is silence if nothing came in time.
-fn meaning_of_kind(kind: ErrorKind) -> Result<Said, Unheard>
+/// Returns what a stream's error of this kind means: silence if nothing came in time, or else why
+/// nothing can be received any more.
+fn meaning_of_kind(kind: ErrorKind) -> Result<PageInput, Unheard>
     ensures { result ≡ what_a_kind_means kind }
 {
     match kind {
-        ErrorKind::WouldBlock => Ok(Said::Nothing),
-        ErrorKind::TimedOut => Ok(Said::Nothing),
+        ErrorKind::WouldBlock => Ok(PageInput::Nothing),
+        ErrorKind::TimedOut => Ok(PageInput::Nothing),
         ErrorKind::HostUnreachable => Err(Unheard::HostGone),
         _ => Err(Unheard::Lost),
     }
 }
 
-/// Sends a text, which is not copied before.
+/// Sends the page a text, which is not copied. Returns why it wasn't sent, if so.
 fn send_text<S: Read + Write + Paced + Drop, K: MaskKeys + Drop>(
     socket: &mut WebSocket<S, K>,
     text: String,
@@ -198,7 +202,7 @@ fn send_text<S: Read + Write + Paced + Drop, K: MaskKeys + Drop>(
     send_message(socket, Message::Text(text))
 }
 
-/// Sends a message, unless the socket takes no more.
+/// Sends the page a message. Returns `Closed`, and sends nothing, if the socket takes no more.
 fn send_message<S: Read + Write + Paced + Drop, K: MaskKeys + Drop>(
     socket: &mut WebSocket<S, K>,
     message: Message,
@@ -218,7 +222,7 @@ fn send_message<S: Read + Write + Paced + Drop, K: MaskKeys + Drop>(
     }
 }
 
-/// Why a message wasn't sent.
+/// Returns why a message wasn't sent: `NoMemory` if memory ran out, or else `Lost`.
 fn reason_unsent(error: &Error) -> Unsent
     ensures { result ≡ reason_of error.now }
 {

@@ -23,7 +23,7 @@ pub struct PrivateMachine {
 }
 
 impl PrivateMachine {
-    /// A blank machine of this limit.
+    /// Makes a blank machine of this limit.
     pub fn new(alloc: Global, limit: Side) -> Result<PrivateMachine, NoMemory>
         ensures { IfOk result (λ own. machine_of own.machine ≡ blank limit) }
     {
@@ -45,8 +45,8 @@ impl Host for PrivateMachine {
 
     ghost answering = { by_private_machine };
 
-    /// Does what a line says, and returns the text of the reply, without its LF. Allocates nothing
-    /// for an empty line and for one that is too long.
+    /// Does the command of a line, and returns the text of the machine's reply, without its LF.
+    /// Allocates nothing for an empty line and for one that is too long.
     fn ask(&mut self, line: &[u8]) -> Result<Answer, Silence> {
         match read_command(self.alloc, line) {
             Ok(command) => reply_to(self.alloc, &mut self.machine, command),

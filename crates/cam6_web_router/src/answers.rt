@@ -35,7 +35,7 @@ pub enum Answer {
     Opens([u8; 28], Way),
 }
 
-/// The answer to a request. `has_room` says whether one more socket may be opened.
+/// Returns the answer to a request. `has_room` says whether one more socket may be opened.
 pub fn answer_to(router: &Router, has_room: bool, request: &Request<Bytes>) -> Answer
     ensures { IsAnswerTo router.now has_room request.now result }
 {
@@ -61,7 +61,8 @@ pub fn answer_to(router: &Router, has_room: bool, request: &Request<Bytes>) -> A
     }
 }
 
-/// The answer if a socket is asked for.
+/// Returns the answer to a request at a socket's path. `host` is the value of its field `Host`, and
+/// `way` is where its path leads. `has_room` says whether one more socket may be opened.
 fn answer_to_socket(
     router: &Router,
     has_room: bool,
@@ -80,7 +81,7 @@ fn answer_to_socket(
     if !router.names.is_origin(origin, host) {
         return Answer::Foreign;
     }
-    let Some(accept) = accepted(request) else {
+    let Some(accept) = accept_key_of(request) else {
         return Answer::Malformed;
     };
     if has_room {
@@ -90,9 +91,9 @@ fn answer_to_socket(
     }
 }
 
-/// The key that accepts the handshake of a request, or none if it is no handshake or its key is
-/// wrong.
-fn accepted(request: &Request<Bytes>) -> Option<[u8; 28]>
+/// Returns the key that accepts the WebSocket handshake of a request. Returns `None` if the request
+/// is no handshake, or if its key is wrong.
+fn accept_key_of(request: &Request<Bytes>) -> Option<[u8; 28]>
     ensures some { IfSome result (λ accept. Accepts request.now accept) }
     ensures none { IfNone result (IsNoHandshake request.now) }
 {
@@ -108,7 +109,7 @@ fn accepted(request: &Request<Bytes>) -> Option<[u8; 28]>
     }
 }
 
-/// Whether the connection is to go on as a socket, in the version that all browsers have.
+/// Returns whether the request's fields ask for a WebSocket of version 13, as all browsers do.
 fn asks_for_websocket(request: &Request<Bytes>) -> bool
     ensures { IsTrue result ↔ AsksForWebSocket request.now }
 {
@@ -121,7 +122,7 @@ fn asks_for_websocket(request: &Request<Bytes>) -> bool
     upgrade.eq_ignore_ascii_case(b"websocket") && version == b"13".as_slice()
 }
 
-/// What the first field of this name says, or `None` if there is no such field.
+/// Returns the value of the first field of this name, or `None` if there is no such field.
 fn field_value<'a>(request: &'a Request<Bytes>, name: &str) -> Option<&'a [u8]>
     ensures { option_map (λ bytes. bytes.now) result ≡ field_value request.now (lowercase name.now) }
 {
@@ -131,7 +132,7 @@ fn field_value<'a>(request: &'a Request<Bytes>, name: &str) -> Option<&'a [u8]>
     }
 }
 
-/// Whether the method is GET or HEAD, so that the request only asks to be shown something.
+/// Returns whether the method is GET or HEAD, so that the request only reads.
 fn is_show(request: &Request<Bytes>) -> bool
     ensures { IsTrue result ↔ IsShow request.now }
 {

@@ -31,8 +31,9 @@ pub struct Opening {
     pub unread: Vec<u8>,
 }
 
-/// Answers the requests of a connection by a site. Returns the opening if the last answer opened a
-/// socket, and nothing if the connection is over.
+/// Answers the requests of a connection by a site. Returns where its socket leads if the last
+/// answer opened one, and the bytes that were read after the handshake. Returns `None` if the
+/// connection ended without a socket.
 pub fn greet<T: RandomSource, R: Read, W: Write>(
     source: &T,
     alloc: Global,

@@ -30,7 +30,8 @@ impl Model for Names {
 }
 
 impl Names {
-    /// The names of this machine for a port.
+    /// Returns the two names under which this computer is reached at a port: `127.0.0.1` and
+    /// `localhost`.
     pub fn new(alloc: Global, port: u16) -> Result<Names, AllocError>
         ensures { IfOk result (λ names. names ≡ named port []) }
     {
@@ -45,7 +46,7 @@ impl Names {
         })
     }
 
-    /// Adds a name, as `Host` spells it: in small letters, with its port if it has one.
+    /// Adds a name, as the field `Host` spells it: in small letters, with its port if it has one.
     pub fn add(&mut self, name: &str) -> Result<(), AllocError>
         ensures ok { OnOk result (self.new ≡ named self.old.port (self.old.added ++ name.now ∷ [])) }
         ensures err { OnErr result (self.new ≡ self.old) }
@@ -55,22 +56,22 @@ impl Names {
         Ok(())
     }
 
-    /// Whether a `Host` is one of the names.
+    /// Returns whether the value of a field `Host` is one of the names.
     pub fn is_name(&self, host: &[u8]) -> bool
         ensures { IsTrue result ↔ IsName self.now host.now }
     {
         host == self.address.as_slice() || host == self.local.as_slice() || self.is_added(host)
     }
 
-    /// Whether a name was added.
+    /// Returns whether the value of a field `Host` is one of the added names.
     fn is_added(&self, host: &[u8]) -> bool
         ensures { IsTrue result ↔ Contains self.now.added host.now }
     {
         is_among(self.added.as_slice(), host)
     }
 
-    /// Whether an `Origin` is that of the server's own pages under the name `host`. That is
-    /// `http://` and the name, or `https://` and the name if it was added.
+    /// Returns whether the value of a field `Origin` is that of the server's own pages under the
+    /// name `host`. That is `http://` and the name, or `https://` and the name if it was added.
     pub fn is_origin(&self, origin: &[u8], host: &[u8]) -> bool
         ensures { IsTrue result ↔ IsOrigin self.now host.now origin.now }
     {
@@ -78,7 +79,7 @@ impl Names {
     }
 }
 
-/// Whether a text is one of others.
+/// Returns whether `text` is equal to one of `texts`.
 fn is_among(texts: &[Bytes], text: &[u8]) -> bool
     ensures { IsTrue result ↔ Contains texts.now text.now }
 {
@@ -90,7 +91,7 @@ fn is_among(texts: &[Bytes], text: &[u8]) -> bool
     false
 }
 
-/// Whether an `Origin` is that of a host's pages over HTTP.
+/// Returns whether the value of a field `Origin` is `http://` and the host's name.
 fn is_plain_origin(origin: &[u8], host: &[u8]) -> bool
     ensures { IsTrue result ↔ (origin.now ≡ codes "http://" ++ host.now) }
 {
@@ -100,7 +101,7 @@ fn is_plain_origin(origin: &[u8], host: &[u8]) -> bool
     }
 }
 
-/// Whether an `Origin` is that of a host's pages over HTTPS.
+/// Returns whether the value of a field `Origin` is `https://` and the host's name.
 fn is_secure_origin(origin: &[u8], host: &[u8]) -> bool
     ensures { IsTrue result ↔ (origin.now ≡ codes "https://" ++ host.now) }
 {

@@ -28,7 +28,8 @@ pub struct Site<'a> {
 }
 
 impl<'a> Site<'a> {
-    /// The site of a router. `has_room` says whether one more socket may be opened.
+    /// Makes the site that a router serves to one connection. `has_room` says whether one more
+    /// socket may be opened.
     pub fn new(alloc: Global, router: &'a Router, has_room: bool) -> Site<'a>
         ensures router { result.router.now ≡ router.now }
         ensures has_room { result.has_room ≡ has_room }
@@ -42,7 +43,7 @@ impl<'a> Site<'a> {
         }
     }
 
-    /// Where a socket leads, if the last answer opened one.
+    /// Returns where the socket leads that the last answer opened, or `None` if it opened none.
     pub fn opened(&self) -> Option<Way>
         ensures { result ≡ self.now.opened }
     {
@@ -62,13 +63,13 @@ impl<'a> Service for Site<'a> {
         response: &mut Response,
     ) -> Result<(), AllocError> {
         let answer = answer_to(self.router, self.has_room, request);
-        tell(self.alloc, self.router, answer, response)?;
+        write_answer(self.alloc, self.router, answer, response)?;
         self.opened = way_of(answer);
         Ok(())
     }
 }
 
-/// Where a socket leads, if the answer opens one.
+/// Returns where the socket leads that an answer opens, or `None` for any other answer.
 fn way_of(answer: Answer) -> Option<Way>
     ensures { result ≡ way_of answer }
 {
@@ -78,8 +79,8 @@ fn way_of(answer: Answer) -> Option<Way>
     }
 }
 
-/// Puts an answer into a response.
-fn tell(
+/// Fills a blank response with an answer: its status, fields and body.
+fn write_answer(
     alloc: Global,
     router: &Router,
     answer: Answer,
@@ -119,7 +120,7 @@ fn tell(
     }
 }
 
-/// The content type of a file.
+/// Returns the content type of a file of this kind.
 fn type_of(kind: Kind) -> HeaderValue
     ensures { result.bytes ≡ type_of kind }
 {
@@ -130,14 +131,14 @@ fn type_of(kind: Kind) -> HeaderValue
     }
 }
 
-/// The content type of a text that is no file.
+/// Returns the content type of a plain text.
 fn plain_text() -> HeaderValue
     ensures { result.bytes ≡ plain }
 {
     HeaderValue::from_static("text/plain; charset=utf-8")
 }
 
-/// Puts a refusal into a response.
+/// Fills a blank response with a refusal: this status, and a plain text as the body.
 fn refuse(response: &mut Response, status: StatusCode, text: &'static str) -> Result<(), AllocError>
     requires { IsBlank response.old }
     ensures { OnOk result (IsResponse status (fields_of_kind plain) text.now response.new) }
@@ -146,8 +147,8 @@ fn refuse(response: &mut Response, status: StatusCode, text: &'static str) -> Re
     show(response, status, plain_text(), text)
 }
 
-/// Puts a text of this content type into a response, with a status. Adds the fields that every text
-/// has.
+/// Fills a blank response with this status, and a text of this content type as the body. Adds the
+/// fields that every such response has.
 fn show(
     response: &mut Response,
     status: StatusCode,
@@ -172,7 +173,7 @@ fn show(
     response.body.push(text)
 }
 
-/// Puts the answer that opens a socket into a response.
+/// Fills a blank response with status 101, the fields that open a socket, and the key `accept`.
 fn open(
     alloc: Global,
     router: &Router,

@@ -38,7 +38,7 @@ impl Model for Hosts {
 }
 
 impl Hosts {
-    /// So many hosts.
+    /// Makes `count` hosts, each with a path of its own.
     pub fn new(alloc: Global, count: usize) -> Result<Hosts, AllocError>
         ensures { IfOk result (λ hosts. hosts ≡ count) }
     {
@@ -55,26 +55,26 @@ impl Hosts {
         })
     }
 
-    /// How many hosts there are, in decimal.
+    /// Returns the number of hosts in decimal.
     pub fn count_text(&self) -> &[u8]
         ensures { result.now ≡ decimal self.now }
     {
         self.count_text.as_slice()
     }
 
-    /// Where the socket at a path leads. `/ws` leads to the first host or, if there is none, to a
-    /// machine of its own. `/ws/K` leads to host K, counted from 1. Returns `None` for any other
-    /// path.
+    /// Returns where the socket at a path leads. `/ws` leads to the first host or, if there is
+    /// none, to a machine of the socket's own. `/ws/K` leads to host K, counted from 1. Returns
+    /// `None` for any other path.
     pub fn way_at(&self, path: &str) -> Option<Way>
         ensures found { IfSome result (λ way. LeadsTo self.now path.now way) }
         ensures none { IfNone result (IsNoWay self.now path.now) }
     {
-        if is_text(path.as_bytes(), "/ws") {
+        if are_bytes_of(path.as_bytes(), "/ws") {
             return Some(first_way(self.paths.len()));
         }
         let mut index = 0;
         while index < self.paths.len() {
-            if is_text(self.paths[index].as_slice(), path) {
+            if are_bytes_of(self.paths[index].as_slice(), path) {
                 return Some(Way::Host(index + 1));
             }
             index += 1;
@@ -83,14 +83,14 @@ impl Hosts {
     }
 }
 
-/// Whether bytes are those of a text.
-fn is_text(bytes: &[u8], text: &str) -> bool
+/// Returns whether bytes are exactly those of a text.
+fn are_bytes_of(bytes: &[u8], text: &str) -> bool
     ensures { IsTrue result ↔ (bytes.now ≡ text.now) }
 {
     bytes == text.as_bytes()
 }
 
-/// Where the socket at `/ws` leads.
+/// Returns where the socket at `/ws` leads if there are this many hosts.
 fn first_way(hosts: usize) -> Way
     ensures { LeadsTo hosts path_to_socket result }
 {

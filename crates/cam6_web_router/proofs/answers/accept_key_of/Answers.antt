@@ -1,5 +1,5 @@
 use Rattle.std.proofs.Common.{rules}
-use Rattle.cam6_web_router.proofs.answers.accepted.Goals as goal
+use Rattle.cam6_web_router.proofs.answers.accept_key_of.Goals as goal
 
 pub returns-in-Ok-clause-some : goal.returns-in-Ok-clause-some
 returns-in-Ok-clause-some c = (
