@@ -1,7 +1,7 @@
 -- The connections of a server, by what they have.
 use Rattle.std.specs.Prelude.{◌≡◌, ◌<◌, ◌+◌, ◌-◌, ◌&&◌, ◌==◌, ℕ, Bool, MatchBool}
-use Rattle.cam6_web.specs.declared.visitors.Standing.{Standing}
-use Rattle.cam6_web.specs.declared.visitors.Standing.TheVariants.{Greeted, Bridged}
+use Rattle.cam6_web.specs.declared.visitors.ClientState.{ClientState}
+use Rattle.cam6_web.specs.declared.visitors.ClientState.TheVariants.{Greeted, Bridged}
 
 -- the most connections that may wait for an answer
 abbrev pub most_greeted : ℕ
@@ -32,7 +32,7 @@ Opens old opened new =
     ((old.bridged ≡ old.room) × (new ≡ old))
 
 -- a connection that had this goes
-abbrev pub Leaves : Standing → Visiting → Visiting → Type 0
+abbrev pub Leaves : ClientState → Visiting → Visiting → Type 0
 Leaves Greeted old new = new ≡ record old { greeted = old.greeted - 1 }
 Leaves Bridged old new = new ≡ record old { bridged = old.bridged - 1 }
 

@@ -54,7 +54,8 @@ pub struct Link<'a, R: Clock> {
 }
 
 impl<'a, R: Clock> Link<'a, R> {
-    /// A connection without a host. Its request has to come, and be answered, within ten seconds.
+    /// Makes the link of a connection, without a host. The client's request has to come, and be
+    /// answered, within ten seconds.
     pub fn new(clock: &'a R, stream: &'a TcpStream) -> io::Result<Link<'a, R>> {
         // Answers are sent even if the socket can't be set to send them at once.
         let _ = stream.set_nodelay(true);
@@ -66,8 +67,8 @@ impl<'a, R: Clock> Link<'a, R> {
         })
     }
 
-    /// Whether a request begins as one for a socket. Waits for as much of it as shows that. It is none
-    /// if the time is over before.
+    /// Returns whether the next request asks for a socket. Waits until enough of it has come to
+    /// tell. Returns false if the time is over before.
     pub fn asks_for_socket(&self) -> bool {
         let mut begin = [0; SOCKET_BEGIN.len()];
         for _ in 0..LOOKS {
@@ -86,8 +87,8 @@ impl<'a, R: Clock> Link<'a, R> {
         false
     }
 
-    /// Copies the bytes that come next, which are left for the next read. Waits for one at least,
-    /// and returns how many came. 0 means that the connection has ended.
+    /// Copies the next bytes of the client, and leaves them for the next read. Waits for at least
+    /// one byte, and returns how many there are. 0 means that the connection has ended.
     fn peek(&self, bytes: &mut [u8]) -> io::Result<usize>
         ensures { IfOk result (λ count. count ≤ length bytes.new) }
     {
@@ -95,14 +96,14 @@ impl<'a, R: Clock> Link<'a, R> {
             let left = time_left(self.clock, self.deadline.get())?;
             self.stream.set_read_timeout(Some(left))?;
             match self.stream.peek(bytes) {
-                Err(fault) if goes_on(fault.kind()) => {}
+                Err(fault) if is_retried(fault.kind()) => {}
                 peeked => return peeked,
             }
         }
         Err(Error::from(ErrorKind::TimedOut))
     }
 
-    /// The same connection, with its host.
+    /// Returns a link of the same connection that also watches the host's stream.
     pub fn with_host<'b>(&'b self, host: &'b TcpStream) -> Link<'b, R> {
         Link {
             clock: self.clock,
@@ -120,7 +121,7 @@ impl<'a, R: Clock> Link<'a, R> {
         }
     }
 
-    /// Lets all calls from here on take so many seconds together.
+    /// Gives all calls from here on together this many seconds.
     fn allow(&self, seconds: u64) {
         // A clock that fails leaves the time as it was.
         if let Ok(deadline) = deadline_in(self.clock, seconds) {
@@ -147,13 +148,13 @@ impl<'a, R: Clock> Link<'a, R> {
 }
 
 impl<R: Clock> Paced for &Link<'_, R> {
-    /// Lets all calls from here on take the seconds of this pace together.
+    /// Gives all calls from here on together the seconds of this pace.
     fn pace(&self, pace: Pace) {
         self.allow(seconds_of(pace));
     }
 }
 
-/// How many seconds calls may take.
+/// Returns how many seconds calls of this pace may take together.
 fn seconds_of(pace: Pace) -> u64 {
     match pace {
         Pace::Listening => SILENT_SECONDS,
@@ -163,14 +164,15 @@ fn seconds_of(pace: Pace) -> u64 {
 }
 
 impl<R: Clock> Read for &Link<'_, R> {
-    /// While it waits, looks once a second whether the host is still there.
+    /// Reads bytes of the client. While it waits, checks once a second that the host is still
+    /// there.
     fn read(&mut self, bytes: &mut [u8]) -> io::Result<usize> {
         let mut stream = self.stream;
         for _ in 0..TRIES {
             let left = time_left(self.clock, self.deadline.get())?;
             stream.set_read_timeout(Some(left.min(Duration::from_secs(LOOK_SECONDS))))?;
             match stream.read(bytes) {
-                Err(fault) if goes_on(fault.kind()) => self.look()?,
+                Err(fault) if is_retried(fault.kind()) => self.look()?,
                 read => return read,
             }
         }
@@ -179,7 +181,8 @@ impl<R: Clock> Read for &Link<'_, R> {
 }
 
 impl<R: Clock> Write for &Link<'_, R> {
-    /// Writes again if a signal interrupts it. Gives up after 1,000 tries, or once the time is over.
+    /// Writes bytes to the client. Writes again if a signal interrupts it. Fails after 1,000 tries,
+    /// or once the time is over.
     fn write(&mut self, bytes: &[u8]) -> io::Result<usize> {
         let mut stream = self.stream;
         for _ in 0..TRIES {
@@ -192,14 +195,15 @@ impl<R: Clock> Write for &Link<'_, R> {
         Err(Error::from(ErrorKind::Interrupted))
     }
 
+    /// Flushes what was written to the client.
     fn flush(&mut self) -> io::Result<()> {
         let mut stream = self.stream;
         stream.flush()
     }
 }
 
-/// Whether a read that failed so is made again.
-fn goes_on(kind: ErrorKind) -> bool {
+/// Returns whether a read that failed so is tried again.
+fn is_retried(kind: ErrorKind) -> bool {
     match kind {
         ErrorKind::Interrupted => true,
         ErrorKind::WouldBlock => true,
@@ -207,8 +211,8 @@ fn goes_on(kind: ErrorKind) -> bool {
     }
 }
 
-/// Whether the other end of a stream has ended it, or the stream has failed. Doesn't wait, and
-/// takes no bytes.
+/// Returns whether the other end of a stream has closed it, or the stream has failed. Doesn't wait,
+/// and reads no bytes.
 fn has_ended(host: &TcpStream) -> bool {
     if host.set_nonblocking(true).is_err() {
         return true;
@@ -219,11 +223,11 @@ fn has_ended(host: &TcpStream) -> bool {
     }
     match peeked {
         Ok(count) => count == 0,
-        Err(fault) => !goes_on(fault.kind()),
+        Err(fault) => !is_retried(fault.kind()),
     }
 }
 
-/// So many seconds from now.
+/// Returns the instant that is this many seconds from now.
 fn deadline_in(clock: &impl Clock, seconds: u64) -> io::Result<Instant> {
     match Instant::now(clock)?.checked_add(Duration::from_secs(seconds)) {
         Some(deadline) => Ok(deadline),
@@ -231,7 +235,7 @@ fn deadline_in(clock: &impl Clock, seconds: u64) -> io::Result<Instant> {
     }
 }
 
-/// The time until `deadline`. Fails with `TimedOut` if none is left.
+/// Returns the time until `deadline`. Fails with `TimedOut` if none is left.
 fn time_left(clock: &impl Clock, deadline: Instant) -> io::Result<Duration> {
     let left = deadline.saturating_duration_since(Instant::now(clock)?);
     if left.is_zero() {

@@ -42,7 +42,7 @@ fn main(rt: HostRuntime) -> ExitCode {
     run(rt)
 }
 
-/// Reads the arguments, and does what they ask for.
+/// Reads the arguments, does what they ask for, and returns the exit status.
 fn run<
     R: Handle
         + Net<Listener = TcpListener, Stream = TcpStream>
@@ -54,35 +54,35 @@ fn run<
         + 'static,
 >(rt: R) -> ExitCode {
     match options_given(&rt) {
-        Ok(options) => over_network(rt, options),
+        Ok(options) => serve_over_network(rt, options),
         Err(refused) => refuse(&rt, Program::Web, &refused),
     }
 }
 
-/// Returns what the arguments ask for, or why they are refused.
+/// Reads the program's arguments. Returns its options, or why the arguments are refused.
 fn options_given<R: Env + AllocGlobal>(rt: &R) -> Result<Options, Refused> {
     let words = words_given(rt, Program::Web)?;
     options_of_web(rt.alloc(), words.as_slice())
 }
 
 /// Serves pages at a port of this machine.
-fn over_network<
+fn serve_over_network<
     R: Handle + Net<Listener = TcpListener, Stream = TcpStream> + Eprint + Send + Sync + 'static,
 >(rt: R, options: Options) -> ExitCode {
     let port = options.port;
     let Ok(listener) = TcpListener::bind(&rt, (Ipv4Addr::LOCALHOST, port)) else {
-        return closed(&rt, Fault::Network);
+        return report_fault(&rt, Fault::Network);
     };
     // Whoever connects from here on is answered. The server goes on if this line can't be written.
     let _ = eprintln!(&rt; "listening on http://127.0.0.1:{port}/");
     match serve_pages(rt, listener, options) {
         Ok(()) => ExitCode::SUCCESS,
-        Err(fault) => closed(&rt, fault),
+        Err(fault) => report_fault(&rt, fault),
     }
 }
 
-/// Prints why a server can't go on, and returns the exit status for that.
-fn closed(rt: &impl Eprint, fault: Fault) -> ExitCode
+/// Prints why the server can't go on to standard error, and returns the exit status for that.
+fn report_fault(rt: &impl Eprint, fault: Fault) -> ExitCode
     ensures { exit_status result ≡ (fault_told fault).0 }
 {
     let (status, text) = fault_of(fault);

@@ -31,11 +31,11 @@ pub fn serve_pages<
         return Err(Fault::NoMemory);
     };
     accept(rt, &server, listener, requests);
-    server.wait();
+    server.wait_for_connections();
     Ok(())
 }
 
-/// What the threads of a server share.
+/// Makes the state that the threads of a server share. Opens no socket, and starts no thread.
 fn open<R: Handle>(rt: R, options: Options) -> Result<Arc<ServerState<R>>, AllocError> {
     let alloc = rt.alloc();
     let mut names = Names::new(alloc, options.port)?;
@@ -54,7 +54,7 @@ fn open<R: Handle>(rt: R, options: Options) -> Result<Arc<ServerState<R>>, Alloc
     Ok(Arc::new(alloc, server)?)
 }
 
-/// Accepts so many connections, or connections without end if the number is 0. Then closes the
+/// Accepts `requests` connections, or connections without end if the number is 0. Then closes the
 /// listener.
 fn accept<
     R: Handle + Net<Listener = TcpListener, Stream = TcpStream> + Eprint + Send + Sync + 'static,
@@ -78,7 +78,8 @@ fn accept<
     }
 }
 
-/// Reports a failure if `quiet` is 0. Returns how many of the next failures are not to be reported.
+/// Prints a failure of accepting to standard error if `quiet` is 0. Returns how many of the next
+/// failures are not to be printed.
 fn report(rt: &impl Eprint, error: &Error, quiet: u32) -> u32 {
     if quiet > 0 {
         return quiet - 1;

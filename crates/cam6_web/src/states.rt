@@ -1,6 +1,6 @@
 //! What the threads of a server share.
 
-use crate::visitors::{Standing, Visitors};
+use crate::visitors::{ClientState, Visitors};
 use cam6_planes::Side;
 use cam6_web_router::Router;
 use std::net::SocketAddr;
@@ -27,18 +27,20 @@ pub struct ServerState<R: Handle> {
 }
 
 impl<R: Handle> ServerState<R> {
-    /// Lets one more connection wait for an answer, or returns false if there is no room.
+    /// Counts one more connection that waits for an answer. Returns false, and counts nothing, if
+    /// there is no room for one.
     pub fn enter(&self) -> bool {
         self.visitors.lock(&self.rt).enter()
     }
 
-    /// Lets a connection that waited have a socket, or returns false if there is no room for one.
+    /// Counts a connection that waited as one with a socket. Returns false, and counts nothing, if
+    /// there is no room for a socket.
     pub fn open(&self) -> bool {
         self.visitors.lock(&self.rt).open()
     }
 
-    /// Removes a connection that had this, and notifies `left` if it was the last one.
-    pub fn leave(&self, standing: Standing) {
+    /// Removes a connection that was counted so, and notifies `left` if it was the last one.
+    pub fn leave(&self, standing: ClientState) {
         let mut visitors = self.visitors.lock(&self.rt);
         visitors.leave(standing);
         if visitors.are_none() {
@@ -46,8 +48,8 @@ impl<R: Handle> ServerState<R> {
         }
     }
 
-    /// Waits until there is no connection.
-    pub fn wait(&self) {
+    /// Waits until all connections have ended.
+    pub fn wait_for_connections(&self) {
         let visitors = self.visitors.lock(&self.rt);
         self.left
             .wait_while(&self.rt, visitors, |visitors| !visitors.are_none());

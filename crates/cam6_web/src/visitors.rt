@@ -9,7 +9,7 @@ const MOST_GREETED: usize = 64;
 
 /// What a connection has.
 #[derive(Clone, Copy, Debug, PartialEq, Eq)]
-pub enum Standing {
+pub enum ClientState {
     /// No answer yet, or one that is no socket.
     Greeted,
     /// A socket.
@@ -37,7 +37,7 @@ impl Model for Visitors {
 }
 
 impl Visitors {
-    /// No connection, with room for so many sockets.
+    /// Makes the counts for no connection, with room for so many sockets.
     pub fn new(room: usize) -> Visitors
         ensures { result ≡ nobody room }
     {
@@ -48,7 +48,8 @@ impl Visitors {
         }
     }
 
-    /// Lets one more connection wait for an answer, or returns false if as many do as may.
+    /// Counts one more connection that waits for an answer. Returns false, and counts nothing, if
+    /// there is no room for one.
     pub fn enter(&mut self) -> bool
         ensures { Enters self.old result self.new }
     {
@@ -59,7 +60,8 @@ impl Visitors {
         true
     }
 
-    /// Lets a connection that waited have a socket, or returns false if there is no room for one.
+    /// Counts a connection that waited as one with a socket. Returns false, and counts nothing, if
+    /// there is no room for a socket.
     pub fn open(&mut self) -> bool
         ensures { Opens self.old result self.new }
     {
@@ -71,17 +73,17 @@ impl Visitors {
         true
     }
 
-    /// Removes a connection that had this.
-    pub fn leave(&mut self, standing: Standing)
+    /// Removes a connection that was counted so.
+    pub fn leave(&mut self, standing: ClientState)
         ensures { Leaves standing self.old self.new }
     {
         match standing {
-            Standing::Greeted => self.greeted = self.greeted.saturating_sub(1),
-            Standing::Bridged => self.bridged = self.bridged.saturating_sub(1),
+            ClientState::Greeted => self.greeted = self.greeted.saturating_sub(1),
+            ClientState::Bridged => self.bridged = self.bridged.saturating_sub(1),
         }
     }
 
-    /// Whether there is no connection.
+    /// Returns whether no connection is counted.
     pub fn are_none(&self) -> bool
         ensures { result ≡ are_none self.now }
     {

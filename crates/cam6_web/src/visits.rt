@@ -2,7 +2,7 @@
 
 use crate::links::Link;
 use crate::states::{Handle, ServerState};
-use crate::visitors::Standing;
+use crate::visitors::ClientState;
 use cam6_web_bridge::{Away, HostLines, bridge, turn_away};
 use cam6_web_machine::PrivateMachine;
 use cam6_web_router::{Opening, Site, Way, greet};
@@ -25,7 +25,7 @@ const HAND_SECONDS: u64 = 60;
 /// Bytes that one read of a host asks for.
 const READ_SIZE: usize = 65_536;
 
-/// Answers a connection in a thread of its own. Closes it at once if too many connections wait for an
+/// Starts a thread that answers a connection. Closes it at once if too many connections wait for an
 /// answer, or if there is no thread or no memory for it.
 pub fn receive<R: Handle + Net<Listener = TcpListener, Stream = TcpStream> + Send + Sync + 'static>(
     server: &Arc<ServerState<R>>,
@@ -34,17 +34,16 @@ pub fn receive<R: Handle + Net<Listener = TcpListener, Stream = TcpStream> + Sen
     if !server.enter() {
         return;
     }
-    if begin(server, stream).is_none() {
-        server.leave(Standing::Greeted);
+    if start_connection_thread(server, stream).is_none() {
+        server.leave(ClientState::Greeted);
     }
 }
 
-/// Starts the thread of a connection, which nobody joins. Returns `None` if there is no thread or
-/// no memory for it.
-fn begin<R: Handle + Net<Listener = TcpListener, Stream = TcpStream> + Send + Sync + 'static>(
-    server: &Arc<ServerState<R>>,
-    stream: TcpStream,
-) -> Option<()> {
+/// Starts the thread that answers a connection, which nobody joins. Returns `None` if there is no
+/// thread or no memory for it.
+fn start_connection_thread<
+    R: Handle + Net<Listener = TcpListener, Stream = TcpStream> + Send + Sync + 'static,
+>(server: &Arc<ServerState<R>>, stream: TcpStream) -> Option<()> {
     let theirs = Arc::try_clone(server).ok()?;
     let thread = spawn(&server.rt, move || attend(&theirs, stream)).ok()?;
     // Its memory is freed when it ends.
@@ -52,7 +51,7 @@ fn begin<R: Handle + Net<Listener = TcpListener, Stream = TcpStream> + Send + Sy
     Some(())
 }
 
-/// Answers a connection, closes it, and then makes its place free.
+/// Answers a connection, closes it, and then frees its place in the counts.
 fn attend<R: Handle + Net<Listener = TcpListener, Stream = TcpStream>>(
     server: &ServerState<R>,
     stream: TcpStream,
@@ -62,23 +61,24 @@ fn attend<R: Handle + Net<Listener = TcpListener, Stream = TcpStream>>(
     server.leave(standing);
 }
 
-/// Answers a connection. Returns what it had at the end.
+/// Answers a connection to its end. Returns how it is counted then: as one that waits for an
+/// answer, or as one with a socket.
 ///
-/// A request for a socket has its place before it is answered, so that the answer says whether there
-/// is room.
+/// A request for a socket has its place before it is answered, so that the answer says whether
+/// there is room.
 fn visit<'a, R: Handle + Net<Listener = TcpListener, Stream = TcpStream>>(
     server: &'a ServerState<R>,
     stream: &'a TcpStream,
-) -> Standing {
+) -> ClientState {
     let Ok(link) = Link::new(&server.rt, stream) else {
-        return Standing::Greeted;
+        return ClientState::Greeted;
     };
     let standing = if link.asks_for_socket() && server.open() {
-        Standing::Bridged
+        ClientState::Bridged
     } else {
-        Standing::Greeted
+        ClientState::Greeted
     };
-    match greeted(server, &link, standing == Standing::Bridged) {
+    match answer_requests(server, &link, standing == ClientState::Bridged) {
         Ok(Some(opening)) => converse(server, &link, opening),
         Ok(None) => {}
         Err(_) => return standing,
@@ -88,8 +88,9 @@ fn visit<'a, R: Handle + Net<Listener = TcpListener, Stream = TcpStream>>(
     standing
 }
 
-/// Answers the requests of a connection. Returns the opening if the last answer opened a socket.
-fn greeted<R: Handle>(
+/// Answers the requests of a connection. Returns where its socket leads, and the bytes read after
+/// the handshake, if the last answer opened a socket. `has_room` says whether one may be opened.
+fn answer_requests<R: Handle>(
     server: &ServerState<R>,
     link: &Link<'_, R>,
     has_room: bool,
@@ -99,7 +100,8 @@ fn greeted<R: Handle>(
     greet(&server.rt, alloc, &mut site, &mut &*link, &mut &*link)
 }
 
-/// Carries the messages of a page to where its socket leads.
+/// Carries the messages of a page to its own machine or to a host, as its socket leads, until the
+/// bridge ends.
 fn converse<R: Handle + Net<Listener = TcpListener, Stream = TcpStream>>(
     server: &ServerState<R>,
     link: &Link<'_, R>,
@@ -112,8 +114,8 @@ fn converse<R: Handle + Net<Listener = TcpListener, Stream = TcpStream>>(
     }
 }
 
-/// Carries the messages of a page to a machine of its own. If there is no memory for one, turns the
-/// page away.
+/// Carries the messages of a page to a machine of its own, until the bridge ends. If there is no
+/// memory for one, turns the page away.
 fn bridge_to_machine<R: Handle>(server: &ServerState<R>, link: &Link<'_, R>, unread: Vec<u8>) {
     let alloc = server.rt.alloc();
     match PrivateMachine::new(alloc, server.limit) {
@@ -124,8 +126,8 @@ fn bridge_to_machine<R: Handle>(server: &ServerState<R>, link: &Link<'_, R>, unr
     }
 }
 
-/// Carries the messages of a page to the host of this number. If it can't be reached, turns the
-/// page away.
+/// Carries the messages of a page to the host of this number, until the bridge ends. If it can't be
+/// reached, turns the page away.
 fn bridge_to_host<R: Handle + Net<Listener = TcpListener, Stream = TcpStream>>(
     server: &ServerState<R>,
     link: &Link<'_, R>,
@@ -143,7 +145,7 @@ fn bridge_to_host<R: Handle + Net<Listener = TcpListener, Stream = TcpStream>>(
     bridge(alloc, &link.with_host(&stream), unread, &mut host);
 }
 
-/// Connects to the host of this number, counted from 1, within ten seconds.
+/// Connects to the host of this number, counted from 1, within ten seconds. Returns the stream.
 fn reach<R: Handle + Net<Listener = TcpListener, Stream = TcpStream>>(
     server: &ServerState<R>,
     number: usize,

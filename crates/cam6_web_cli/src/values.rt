@@ -10,7 +10,8 @@ use cam6_planes::Side;
 use std::alloc::{AllocError, Global};
 use std::net::SocketAddr;
 
-/// The side at an option, or 512 if the option isn't there. Returns `None` if the word is no side.
+/// Returns the side that an option's word names, or 512 if the option isn't there. Returns `None`
+/// if the word names no side.
 pub fn side_by(word: Option<&str>) -> Option<Side>
     ensures { result ≡ side_told (option_map (λ word. word.now) word.entry) }
 {
@@ -29,7 +30,8 @@ pub enum Unaddressed {
     NoMemory,
 }
 
-/// The addresses that are given at an option, in order. There are none without the option.
+/// Parses the words of an option as addresses, in order. Returns none without the option, and
+/// `NoAddress` if a word isn't an address and a port.
 pub fn addresses_by(alloc: Global, words: Option<&[&str]>) -> Result<Vec<SocketAddr>, Unaddressed>
     ensures addresses { IfOk result (λ addresses.
         AreAddresses (given (option_map (λ words. texts words.now) words.entry)) addresses.items) }
@@ -43,7 +45,7 @@ pub fn addresses_by(alloc: Global, words: Option<&[&str]>) -> Result<Vec<SocketA
     }
 }
 
-/// The addresses that words say, in order.
+/// Parses words as addresses, in order. Returns `NoAddress` if a word isn't an address and a port.
 fn addresses_of(alloc: Global, words: &[&str]) -> Result<Vec<SocketAddr>, Unaddressed>
     ensures addresses { IfOk result (λ addresses. AreAddresses (texts words.now) addresses.items) }
     ensures none { IfErr result (λ why. why ≡ Unaddressed.NoAddress →
@@ -63,8 +65,7 @@ fn addresses_of(alloc: Global, words: &[&str]) -> Result<Vec<SocketAddr>, Unaddr
     Ok(addresses)
 }
 
-/// The words that are given at an option as texts of their own, in order. There are none without
-/// the option.
+/// Returns copies of the words of an option, in order. Returns none without the option.
 pub fn copied_by(alloc: Global, words: Option<&[&str]>) -> Result<Vec<String>, AllocError>
     ensures { IfOk result (λ copies. map string_bytes copies.items
         ≡ given (option_map (λ words. texts words.now) words.entry)) }
@@ -75,7 +76,7 @@ pub fn copied_by(alloc: Global, words: Option<&[&str]>) -> Result<Vec<String>, A
     }
 }
 
-/// The words as texts of their own, in order.
+/// Returns copies of these words, in order.
 fn copied(alloc: Global, words: &[&str]) -> Result<Vec<String>, AllocError>
     ensures { IfOk result (λ copies. map string_bytes copies.items ≡ texts words.now) }
 {

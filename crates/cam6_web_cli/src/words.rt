@@ -37,7 +37,8 @@ Exit status:
   5  out of memory
   7  network failed";
 
-/// Returns what the arguments ask for, or why they are refused. The first is the program's name.
+/// Reads the arguments of `cam6_web`. Returns its options, or why the arguments are refused. The
+/// first word is the program's name.
 pub fn options_of_web(alloc: Global, words: &[String]) -> Result<Options, Refused>
     // For a simple command, clap's matches and the kinds of its errors are functions of the words.
     ensures asked { IfOk result (λ options.
@@ -50,13 +51,14 @@ pub fn options_of_web(alloc: Global, words: &[String]) -> Result<Options, Refuse
         return Err(Refused::NoMemory);
     };
     match command.try_get_matches_from(words) {
-        Ok(matches) => taken(alloc, &matches),
+        Ok(matches) => read_matches(alloc, &matches),
         Err(error) => Err(refusal(alloc, error, "")),
     }
 }
 
-/// Returns the options of arguments that clap takes, or why they are refused.
-fn taken(alloc: Global, matches: &ArgMatches<'_>) -> Result<Options, Refused>
+/// Returns the options that clap's matches have, or why the arguments are refused, with a line for
+/// the user.
+fn read_matches(alloc: Global, matches: &ArgMatches<'_>) -> Result<Options, Refused>
     ensures asked { IfOk result (λ options.
         HasOptions options (asked_by (rows_of (found_of matches.now)))) }
     ensures refused { IfErr result (λ refused. IsRefusal refused
@@ -69,18 +71,19 @@ fn taken(alloc: Global, matches: &ArgMatches<'_>) -> Result<Options, Refused>
             texts_at(matches, "host"),
             texts_at(matches, "name"),
         ),
-        Err(unsaid) => Err(says_nothing(alloc, unsaid)),
+        Err(unsaid) => Err(refuse_value(alloc, unsaid)),
     }
 }
 
-/// The refusal of arguments that clap takes but that ask for nothing, with a line that says why.
-fn says_nothing(alloc: Global, unsaid: Unsaid) -> Refused
+/// Returns the refusal of arguments with a value that is wrong, with a line that names it.
+fn refuse_value(alloc: Global, unsaid: Unsaid) -> Refused
     ensures { IsRefusal result }
 {
     unasked(format!(in alloc; "cam6_web: {unsaid}\n"))
 }
 
-/// What numbers, and the words at `--host` and at `--name`, ask for.
+/// Returns the options with these numbers, and the words at `--host` and at `--name`. Refuses them
+/// if a word at `--host` is no address.
 fn with_lists(
     alloc: Global,
     numbers: Numbers,
@@ -97,7 +100,7 @@ fn with_lists(
 {
     let hosts = match addresses_by(alloc, hosts) {
         Ok(hosts) => hosts,
-        Err(Unaddressed::NoAddress) => return Err(says_nothing(alloc, Unsaid::Host)),
+        Err(Unaddressed::NoAddress) => return Err(refuse_value(alloc, Unsaid::Host)),
         Err(Unaddressed::NoMemory) => return Err(Refused::NoMemory),
     };
     match copied_by(alloc, names) {
@@ -122,11 +125,11 @@ pub(crate) struct Numbers {
     pub(crate) requests: u64,
 }
 
-/// The numbers that clap's matches ask for.
+/// Returns the options that are numbers, from clap's matches, or the first one that is wrong.
 fn numbers_asked(matches: &ArgMatches<'_>) -> Result<Numbers, Unsaid>
     ensures { result_ok result ≡ numbers_at (rows_of (found_of matches.now)) }
 {
-    all(
+    collect_numbers(
         number_by(text_at(matches, "port"), 1, MAX_PORT, 6_007),
         number_by(text_at(matches, "connections"), 1, MAX_CONNECTIONS, 64),
         side_by(text_at(matches, "side")),
@@ -134,8 +137,8 @@ fn numbers_asked(matches: &ArgMatches<'_>) -> Result<Numbers, Unsaid>
     )
 }
 
-/// All of these numbers, or the error for the first that is missing.
-fn all(
+/// Collects these four numbers, or returns the error for the first that is missing.
+fn collect_numbers(
     port: Option<u64>,
     connections: Option<u64>,
     limit: Option<Side>,
@@ -165,7 +168,7 @@ fn all(
     })
 }
 
-/// The program's name, help and options, as clap takes them.
+/// Returns clap's description of `cam6_web`: its name, help and options.
 fn program<'a>(alloc: Global) -> Result<Command<'a>, AllocError>
     ensures { IfOk result (λ command. app_of command ≡ program_of) }
 {
@@ -179,7 +182,7 @@ fn program<'a>(alloc: Global) -> Result<Command<'a>, AllocError>
         .arg(requests_option(alloc))
 }
 
-/// An option that takes one value, and may be given again and again.
+/// Returns clap's description of an option that takes one value, and may occur several times.
 fn list_option<'a>(alloc: Global, name: &'a str, value: &'a str, help: &'a str) -> Arg<'a>
     ensures rule { rule_of result ≡ option_of_lists name.now }
     ensures global { result.global ≡ false }
@@ -191,7 +194,7 @@ fn list_option<'a>(alloc: Global, name: &'a str, value: &'a str, help: &'a str) 
         .help(help)
 }
 
-/// `--port`.
+/// Returns clap's description of `--port`.
 fn port_option<'a>(alloc: Global) -> Arg<'a>
     ensures rule { rule_of result ≡ option_of (codes "port") }
     ensures global { result.global ≡ false }
@@ -204,7 +207,7 @@ fn port_option<'a>(alloc: Global) -> Arg<'a>
     )
 }
 
-/// `--host`.
+/// Returns clap's description of `--host`.
 fn host_option<'a>(alloc: Global) -> Arg<'a>
     ensures rule { rule_of result ≡ option_of_lists (codes "host") }
     ensures global { result.global ≡ false }
@@ -217,7 +220,7 @@ fn host_option<'a>(alloc: Global) -> Arg<'a>
     )
 }
 
-/// `--name`.
+/// Returns clap's description of `--name`.
 fn name_option<'a>(alloc: Global) -> Arg<'a>
     ensures rule { rule_of result ≡ option_of_lists (codes "name") }
     ensures global { result.global ≡ false }
@@ -230,7 +233,7 @@ fn name_option<'a>(alloc: Global) -> Arg<'a>
     )
 }
 
-/// `--connections`.
+/// Returns clap's description of `--connections`.
 fn connections_option<'a>(alloc: Global) -> Arg<'a>
     ensures rule { rule_of result ≡ option_of (codes "connections") }
     ensures global { result.global ≡ false }
@@ -243,7 +246,7 @@ fn connections_option<'a>(alloc: Global) -> Arg<'a>
     )
 }
 
-/// `--side`.
+/// Returns clap's description of `--side`.
 fn side_option<'a>(alloc: Global) -> Arg<'a>
     ensures rule { rule_of result ≡ option_of (codes "side") }
     ensures global { result.global ≡ false }
@@ -256,7 +259,7 @@ fn side_option<'a>(alloc: Global) -> Arg<'a>
     )
 }
 
-/// `--requests`.
+/// Returns clap's description of `--requests`.
 fn requests_option<'a>(alloc: Global) -> Arg<'a>
     ensures rule { rule_of result ≡ option_of (codes "requests") }
     ensures global { result.global ≡ false }

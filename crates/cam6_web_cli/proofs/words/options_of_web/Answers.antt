@@ -10,7 +10,7 @@ returns-in-Ok-try_get_matches_from-clause-asked c =
     let taken = c.in-Ok-try_get_matches_from in
     asked_as_clap_takes program (app_of c.in-Ok.command) _ c.in-Ok.ensures program_is_free
     program_is_simple taken.matches taken.ensures.matches taken.ensures.kinds
-    (λ options rows. HasOptions options (asked rows)) c.taken.result c.taken.ensures.asked
+    (λ options rows. HasOptions options (asked rows)) c.read_matches.result c.read_matches.ensures.asked
 
 pub returns-in-Ok-try_get_matches_from-clause-refused :
     goal.returns-in-Ok-try_get_matches_from-clause-refused
@@ -18,7 +18,7 @@ returns-in-Ok-try_get_matches_from-clause-refused c =
     let taken = c.in-Ok-try_get_matches_from in
     refused_as_unsaid program (app_of c.in-Ok.command) _ c.in-Ok.ensures program_is_free
     program_is_simple taken.matches taken.ensures.matches taken.ensures.kinds
-    (λ rows. SayNothing (asked rows)) c.taken.result c.taken.ensures.refused
+    (λ rows. SayNothing (asked rows)) c.read_matches.result c.read_matches.ensures.refused
 
 pub returns-in-Err-clause-refused : goal.returns-in-Err-clause-refused
 returns-in-Err-clause-refused c =

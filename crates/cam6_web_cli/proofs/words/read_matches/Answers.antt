@@ -1,5 +1,5 @@
 use Rattle.cam6_web_cli.proofs.Given.{asked_so, refused_so}
-use Rattle.cam6_web_cli.proofs.words.taken.Goals as goal
+use Rattle.cam6_web_cli.proofs.words.read_matches.Goals as goal
 
 pub returns-in-Ok-clause-asked : goal.returns-in-Ok-clause-asked
 returns-in-Ok-clause-asked c =
