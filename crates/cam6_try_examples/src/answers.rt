@@ -2,7 +2,7 @@
 
 use std::io;
 
-/// Adds a line, and its LF, to what comes back.
+/// Adds a line, and its LF, to the bytes that come back.
 pub fn add_line(answers: &mut Vec<u8>, line: &str) -> io::Result<()> {
     answers.extend_from_slice(line.as_bytes())?;
     answers.push(b'\n')?;

@@ -37,7 +37,8 @@ struct Reading<W: Way> {
     named: Vec<Named>,
 }
 
-/// Reads an example. An error has the number of the line that can't be played, counted from 1.
+/// Reads the text of an example. Returns its parts, or the number of the first line that can't be
+/// played, counted from 1, and why.
 pub fn read_example<W: Way>(
     alloc: Global,
     text: &str,
@@ -56,7 +57,8 @@ pub fn read_example<W: Way>(
 }
 
 impl<W: Way> Reading<W> {
-    /// Reads all lines. An error has the number of the line that can't be played, counted from 1.
+    /// Reads all lines of an example. An error has the number of the first line that can't be
+    /// played, counted from 1, and why.
     fn read_lines(&mut self, alloc: Global, text: &str) -> Result<(), (usize, Unplayable)> {
         let mut lines: usize = 0;
         for line in text.split('\n') {
@@ -66,6 +68,8 @@ impl<W: Way> Reading<W> {
         Ok(())
     }
 
+    /// Reads one line of an example, by the mark at its front: `as`, `let`, `>`, `>>` or `<`. Blank
+    /// lines and remarks (`#`) do nothing.
     fn read_line(&mut self, alloc: Global, line: &str) -> Result<(), Unplayable> {
         let (mark, rest) = line.split_once(' ').unwrap_or((line, ""));
         match mark {
@@ -79,6 +83,7 @@ impl<W: Way> Reading<W> {
         }
     }
 
+    /// Begins a part of the example, which is played in the way that the words after `as` say.
     fn begin_part(&mut self, alloc: Global, way: &str) -> Result<(), Unplayable> {
         let part = Part {
             way: W::read(alloc, way)?,
@@ -88,12 +93,12 @@ impl<W: Way> Reading<W> {
         Ok(self.parts.push(part)?)
     }
 
-    /// The part that is being read. There is none above the first `as`.
+    /// Returns the part that is being read. It is an error if no `as` came before.
     fn current_part(&mut self) -> Result<&mut Part<W>, Unplayable> {
         self.parts.last_mut().ok_or(Unplayable::Unread)
     }
 
-    /// Reads `NAME TEXT`, and keeps the text under the name.
+    /// Reads `NAME TEXT` after `let`, and stores the text under this name.
     fn name(&mut self, alloc: Global, rest: &str) -> Result<(), Unplayable> {
         let (name, text) = rest.split_once(' ').ok_or(Unplayable::Unread)?;
         let bytes = written_out(alloc, text, self.named.as_slice())?;
@@ -101,8 +106,8 @@ impl<W: Way> Reading<W> {
         Ok(self.named.push(Named { name, bytes })?)
     }
 
-    /// Reads what stands after `>`, and adds the line to those that are sent. What stands after `
-    /// => ` must come back.
+    /// Reads what stands after `>`, and adds the line to those that the part sends. What stands
+    /// after an arrow, `=>`, must come back.
     fn send(&mut self, alloc: Global, rest: &str) -> Result<(), Unplayable> {
         match rest.rsplit_once(" => ") {
             Some((sent, wanted)) => {
@@ -113,6 +118,8 @@ impl<W: Way> Reading<W> {
         }
     }
 
+    /// Adds a text to those that the part sends, with its marks written out. `has_end` says whether
+    /// it ends as a line.
     fn send_text(&mut self, alloc: Global, text: &str, has_end: bool) -> Result<(), Unplayable> {
         let bytes = written_out(alloc, text, self.named.as_slice())?;
         Ok(self.current_part()?.sent.push(Sent { bytes, has_end })?)

@@ -12,12 +12,14 @@ pub enum Unplayable {
 }
 
 impl From<AllocError> for Unplayable {
+    /// Makes `NoMemory` of a failed allocation.
     fn from(_: AllocError) -> Unplayable {
         Unplayable::NoMemory
     }
 }
 
 impl<T: Drop> From<AllocFailed<T>> for Unplayable {
+    /// Drops the value that couldn't be stored, and makes `NoMemory`.
     fn from(_: AllocFailed<T>) -> Unplayable {
         Unplayable::NoMemory
     }

@@ -3,7 +3,7 @@
 //!
 //! Contract: it makes no claim beyond being safe, but that a size is within its bounds (`size_of`).
 //! A program plays the examples. It has the ways (`Way`) that its own files ask for, and says how
-//! their lines are played (`Played`, or a closure that may start threads). `play` and `play_by` do
+//! their lines are played (`Played`, or a closure that may start threads). `play` and `play_with` do
 //! the rest.
 //!
 //! Stands on: `cam6_planes`, for sides, and `cam6_wiring`, for the words of a wiring.
@@ -24,6 +24,6 @@ mod ways;
 pub use answers::{add_line, no_memory};
 pub use examples::{Part, Sent, read_example};
 pub use faults::Unplayable;
-pub use players::{play, play_by};
+pub use players::{play, play_with};
 pub use settings::{limit_of, side_of, size_of, wiring_before, wiring_of};
 pub use ways::{Played, Way};

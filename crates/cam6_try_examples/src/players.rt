@@ -10,7 +10,7 @@ use std::fs::Files;
 use std::process::ExitCode;
 use std::{fs, io};
 
-/// Does what the program's arguments ask for.
+/// Plays the examples that the program's arguments name, and returns the exit status.
 ///
 /// The arguments name files, for example `parity.example`. Each is played in the ways that it says,
 /// and a line reports whether all came back byte for byte. A file with a name that begins with
@@ -18,12 +18,13 @@ use std::{fs, io};
 /// compared.
 pub fn play<W: Played, R: Env + Files + Print + AllocGlobal>(rt: &R) -> io::Result<ExitCode> {
     let alloc = rt.alloc();
-    play_by(rt, &|way: &W, sent: &[Sent]| way.played(alloc, sent))
+    play_with(rt, &|way: &W, sent: &[Sent]| way.played(alloc, sent))
 }
 
-/// The same, but a closure plays the ways. It may use all of the handle that it has, for example to
-/// start threads.
-pub fn play_by<
+/// Plays the examples that the program's arguments name, as `play` does, but the closure `played`
+/// gives what comes back for a part's lines. The closure may use all of the handle that it has, for
+/// example to start threads.
+pub fn play_with<
     W: Way,
     R: Env + Files + Print + AllocGlobal,
     F: Fn(&W, &[Sent]) -> io::Result<Vec<Vec<u8>>>,
@@ -40,7 +41,8 @@ pub fn play_by<
     })
 }
 
-/// Returns the parts of an example. If a line can't be played, prints this and returns `None`.
+/// Reads the file of an example, and returns its parts. If a line can't be played, prints this and
+/// returns `None`.
 fn parts_of<W: Way, R: Files + Print + AllocGlobal>(
     rt: &R,
     name: &str,
@@ -56,7 +58,8 @@ fn parts_of<W: Way, R: Files + Print + AllocGlobal>(
     }
 }
 
-/// Plays examples. Returns whether all came back, except for those that are wrong on purpose.
+/// Plays the examples in these files. Returns whether all lines came back, except for the examples
+/// that are wrong on purpose.
 fn play_files<
     W: Way,
     R: Files + Print + AllocGlobal,
@@ -71,8 +74,8 @@ fn play_files<
     Ok(is_well)
 }
 
-/// Plays an example. Returns whether all came back, or whether not all did if it is wrong on
-/// purpose.
+/// Plays the example in a file. Returns whether all its lines came back. If it is wrong on purpose,
+/// returns whether not all did.
 fn play_file<
     W: Way,
     R: Files + Print + AllocGlobal,
@@ -87,8 +90,8 @@ fn play_file<
     }
 }
 
-/// Plays an example, and prints and returns whether all its lines came back. They didn't if no line
-/// is wanted.
+/// Plays the parts of an example. Prints and returns whether all lines came back that must. It is
+/// false if there are none.
 fn show<W: Way, R: Print + AllocGlobal, F: Fn(&W, &[Sent]) -> io::Result<Vec<Vec<u8>>>>(
     rt: &R,
     name: &str,
@@ -116,11 +119,13 @@ fn show<W: Way, R: Print + AllocGlobal, F: Fn(&W, &[Sent]) -> io::Result<Vec<Vec
     Ok(true)
 }
 
+/// Returns how many LFs these bytes have.
 fn lines_of(bytes: &[u8]) -> usize {
     bytes.iter().filter(|byte| **byte == b'\n').count()
 }
 
-/// The first line, from 1, in which one of the answers differs from the wanted one, if one does.
+/// Returns the number of the first line, counted from 1, in which one of the answers differs from
+/// `wanted`. Returns `None` if none differs.
 fn first_other_of_all(answers: Vec<Vec<u8>>, wanted: &[u8]) -> Option<usize> {
     for answer in answers.as_slice() {
         if let Some(line) = first_other(answer.as_slice(), wanted) {
@@ -130,7 +135,8 @@ fn first_other_of_all(answers: Vec<Vec<u8>>, wanted: &[u8]) -> Option<usize> {
     None
 }
 
-/// The first line, from 1, in which two texts differ, if they do.
+/// Returns the number of the first line, counted from 1, in which two texts differ. Returns `None`
+/// if they are equal.
 fn first_other(answers: &[u8], wanted: &[u8]) -> Option<usize> {
     if answers == wanted {
         return None;

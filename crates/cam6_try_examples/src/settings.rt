@@ -5,7 +5,7 @@ use crate::faults::Unplayable;
 use cam6_planes::Side;
 use cam6_wiring::{Half, Hood, Minor, Wiring};
 
-/// The limit that `within NUMBER` says, or 256 if nothing is said.
+/// Returns the limit in `within NUMBER`, or 256 for an empty text.
 pub fn limit_of(text: &str) -> Result<Side, Unplayable> {
     if text.is_empty() {
         return Ok(Side::S256);
@@ -13,12 +13,12 @@ pub fn limit_of(text: &str) -> Result<Side, Unplayable> {
     side_of(text.strip_prefix("within ").ok_or(Unplayable::Unread)?)
 }
 
-/// The side whose number a text is.
+/// Returns the side of this number. Any other text is an error.
 pub fn side_of(number: &str) -> Result<Side, Unplayable> {
     Side::named(number).ok_or(Unplayable::Unread)
 }
 
-/// A number from 1 to `most`.
+/// Returns the number that a text has, from 1 to `most`. Any other text is an error.
 pub fn size_of(text: &str, most: usize) -> Result<usize, Unplayable>
     ensures { IfOk result (λ size. (0 < size) × (size ≤ most)) }
 {
@@ -30,7 +30,8 @@ pub fn size_of(text: &str, most: usize) -> Result<usize, Unplayable>
     }
 }
 
-/// The wiring that `HALF HOOD MINOR` says, for example `A N/VONN &/CENTERS`.
+/// Returns the wiring of a text `HALF HOOD MINOR`, for example `A N/VONN &/CENTERS`. Any other text
+/// is an error.
 pub fn wiring_of(text: &str) -> Result<Wiring, Unplayable> {
     match wiring_before(text) {
         Some((wiring, "")) => Ok(wiring),
@@ -38,7 +39,8 @@ pub fn wiring_of(text: &str) -> Result<Wiring, Unplayable> {
     }
 }
 
-/// The wiring that `HALF HOOD MINOR` says, and the text after it and a space.
+/// Returns the wiring of a text that begins with `HALF HOOD MINOR`, and what comes after the next
+/// space. Returns `None` for any other text.
 pub fn wiring_before(text: &str) -> Option<(Wiring, &str)> {
     let (half, rest) = text.split_once(' ')?;
     let (hood, rest) = rest.split_once(' ')?;

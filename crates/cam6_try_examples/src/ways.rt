@@ -7,12 +7,13 @@ use std::io;
 
 /// What is made of the lines that a part of an example sends.
 pub trait Way: Drop {
-    /// Reads the words after `as`.
+    /// Reads the words after `as` as a way. Any other words are an error.
     fn read(alloc: Global, words: &str) -> Result<Self, Unplayable>;
 }
 
-/// A way that needs nothing but memory to be played. `play_by` is for ways that need more.
+/// A way that needs nothing but memory to be played. `play_with` is for ways that need more.
 pub trait Played: Way {
-    /// What comes back for the lines, once for each way in. Each must be what is wanted.
+    /// Plays the lines in this way. Returns what comes back, once for each way in. Each must be
+    /// what is wanted.
     fn played(&self, alloc: Global, sent: &[Sent]) -> io::Result<Vec<Vec<u8>>>;
 }

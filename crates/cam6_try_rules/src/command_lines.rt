@@ -6,7 +6,7 @@ use cam6_wiring::Wiring;
 use serde_json::{Value, json};
 use std::alloc::{AllocError, Global};
 
-/// The line that says a command, without its LF.
+/// Returns the line that is read as this command, without its LF.
 pub fn line_of(alloc: Global, command: &Command) -> Result<String, AllocError> {
     match command {
         Command::Set { plane, row, bits } => set_line(alloc, *plane, *row, bits.as_slice()),
@@ -30,16 +30,18 @@ pub fn line_of(alloc: Global, command: &Command) -> Result<String, AllocError> {
     }
 }
 
-/// A value as a line.
+/// Returns the JSON text of a value as a line without its LF.
 fn line(alloc: Global, value: Result<Value, AllocError>) -> Result<String, AllocError> {
     value?.to_string(alloc)
 }
 
+/// Returns the line of a `set` command, with its bits in hexadecimal digits.
 fn set_line(alloc: Global, plane: u64, row: u64, bits: &[u8]) -> Result<String, AllocError> {
     let bits = hex::encode(alloc, bits)?;
     format!(in alloc; r#"{{"bits":"{bits}","do":"set","plane":{plane},"row":{row}}}"#)
 }
 
+/// Returns the JSON value of a `rule` command.
 fn rule_value(
     alloc: Global,
     name: &Text,
@@ -56,16 +58,18 @@ fn rule_value(
     })
 }
 
+/// Returns the JSON value of a `drop` command.
 fn drop_value(alloc: Global, name: &Text) -> Result<Value, AllocError> {
     json!(in alloc; {"do": "drop", "name": name.as_str()})
 }
 
-/// The value of a `load`. Its machine is written in the second version.
+/// Returns the JSON value of a `load` command. Its machine is written in the second version.
 fn load_value(alloc: Global, machine: &SavedMachine) -> Result<Value, AllocError> {
     let machine = machine_value(alloc, Version::Second, machine)?;
     json!(in alloc; {"do": "load", "machine": machine})
 }
 
+/// Returns the JSON value of a `cycle` command.
 fn cycle_value(alloc: Global, entries: &[NamedEntry]) -> Result<Value, AllocError> {
     let mut values = Vec::new(alloc);
     for entry in entries {
@@ -75,6 +79,7 @@ fn cycle_value(alloc: Global, entries: &[NamedEntry]) -> Result<Value, AllocErro
     json!(in alloc; {"do": "cycle", "entries": entries})
 }
 
+/// Returns the JSON value of a `map` command.
 fn map_value(alloc: Global, colours: &[u64; 16]) -> Result<Value, AllocError> {
     let mut values = Vec::new(alloc);
     for colour in colours.as_slice() {
@@ -84,6 +89,7 @@ fn map_value(alloc: Global, colours: &[u64; 16]) -> Result<Value, AllocError> {
     json!(in alloc; {"colours": colours, "do": "map"})
 }
 
+/// Returns the JSON value of one entry of a cycle.
 fn entry_value(alloc: Global, entry: &NamedEntry) -> Result<Value, AllocError> {
     let a = entry.a.as_ref().map_or("-", Text::as_str);
     let b = entry.b.as_ref().map_or("-", Text::as_str);

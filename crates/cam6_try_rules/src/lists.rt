@@ -28,8 +28,8 @@ pub struct Sizes {
 }
 
 impl Sizes {
-    /// Reads `USERS BOARDS TABLES`, or this and `within LIMIT ..`: one limit for all users, or one for
-    /// each. It is 256 if nothing is said.
+    /// Reads `USERS BOARDS TABLES`, or this and `within LIMIT ..`. There is one limit for all
+    /// users, or one for each. Without `within` each limit is 256.
     pub fn read(alloc: Global, words: &str) -> Result<Sizes, Unplayable> {
         let (sizes, limits) = words.split_once(" within ").unwrap_or((words, "256"));
         let (users, sizes) = sizes.split_once(' ').ok_or(Unplayable::Unread)?;
@@ -42,19 +42,22 @@ impl Sizes {
         })
     }
 
-    /// The outcomes of the events that lines say.
+    /// Does the events that lines have in a new core of these sizes. Returns the line of each
+    /// outcome.
     pub fn outcomes(&self, alloc: Global, sent: &[Sent]) -> io::Result<Vec<u8>> {
         let mut core = self.core(alloc).map_err(|_| no_memory())?;
         outcomes_at(alloc, &mut core, sent)
     }
 
+    /// Makes a new core of these sizes.
     fn core(&self, alloc: Global) -> Result<Core, NoMemory> {
         let limits = self.limits.as_slice();
         Core::new(alloc, limits.len(), self.boards, self.tables, limits)
     }
 }
 
-/// A limit for each of so many users: the same for all if one is said, or as many as are said.
+/// Returns a limit for each of so many users. A text with one number gives this limit to all.
+/// Otherwise it has as many numbers as there are users.
 fn limits_of(alloc: Global, users: usize, text: &str) -> Result<Vec<Side>, Unplayable>
     ensures { IfOk result (λ limits. length limits.items ≡ users) }
 {
@@ -71,7 +74,7 @@ fn limits_of(alloc: Global, users: usize, text: &str) -> Result<Vec<Side>, Unpla
     Ok(limits)
 }
 
-/// The outcomes of the events that lines say, at this core.
+/// Does the events that lines have in this core. Returns the line of each outcome.
 fn outcomes_at(alloc: Global, core: &mut Core, sent: &[Sent]) -> io::Result<Vec<u8>> {
     let events = events_of(alloc, sent).map_err(|_| no_memory())?;
     let outcomes = run(alloc, core, events).map_err(|_| no_memory())?;
@@ -83,15 +86,16 @@ fn outcomes_at(alloc: Global, core: &mut Core, sent: &[Sent]) -> io::Result<Vec<
     Ok(answers)
 }
 
-/// Does the events of lines as one list, and prints what came of them. Begins again if an
-/// allocation fails, up to ten times in all.
+/// Does the events of lines as one list in a new core, and prints the line of each outcome. Begins
+/// again if an allocation fails, up to ten times in all.
 pub fn do_all<R: Print + AllocGlobal>(rt: &R, sizes: &Sizes, sent: &[Sent]) -> io::Result<()> {
     let alloc = rt.alloc();
     let mut core = sizes.core(alloc).map_err(|_| no_memory())?;
     do_at(rt, &mut core, sent)
 }
 
-/// The same for this core.
+/// Does the events of lines as one list in this core, and prints the line of each outcome. Begins
+/// again if an allocation fails, up to ten times in all.
 fn do_at<R: Print + AllocGlobal>(rt: &R, core: &mut Core, sent: &[Sent]) -> io::Result<()> {
     for _ in 0..TIMES {
         match events_of(rt.alloc(), sent) {
@@ -105,7 +109,7 @@ fn do_at<R: Print + AllocGlobal>(rt: &R, core: &mut Core, sent: &[Sent]) -> io::
     Err(io::Error::from(ErrorKind::Other))
 }
 
-/// The events that lines say. Other lines are left out.
+/// Returns the events that lines are read as. Lines that are no event are left out.
 fn events_of(alloc: Global, sent: &[Sent]) -> Result<Vec<Event>, NoMemory> {
     let mut events = Vec::new(alloc);
     for line in sent {
@@ -114,7 +118,7 @@ fn events_of(alloc: Global, sent: &[Sent]) -> Result<Vec<Event>, NoMemory> {
     Ok(events)
 }
 
-/// Adds the event that a line says, if it says one.
+/// Adds the event that a line is read as, if it is one.
 fn add_event(alloc: Global, events: &mut Vec<Event>, line: &[u8]) -> Result<(), NoMemory> {
     match read_event(alloc, line) {
         Ok(event) => events.push(event).map_err(|_| NoMemory),
@@ -123,6 +127,7 @@ fn add_event(alloc: Global, events: &mut Vec<Event>, line: &[u8]) -> Result<(), 
     }
 }
 
+/// Prints the line of each outcome.
 fn tell<R: Print + AllocGlobal>(rt: &R, outcomes: &[Outcome]) -> io::Result<()> {
     for outcome in outcomes {
         let text = text_of(rt.alloc(), outcome).ok_or(no_memory())?;
@@ -131,6 +136,8 @@ fn tell<R: Print + AllocGlobal>(rt: &R, outcomes: &[Outcome]) -> io::Result<()> 
     Ok(())
 }
 
+/// Returns the line of an outcome. Tries again if an allocation fails, and returns `None` after ten
+/// times.
 fn text_of(alloc: Global, outcome: &Outcome) -> Option<String> {
     for _ in 0..TIMES {
         if let Ok(text) = outcome_text(alloc, outcome) {

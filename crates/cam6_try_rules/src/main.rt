@@ -26,6 +26,8 @@ use std::io;
 use std::process::ExitCode;
 use ways::LineWay;
 
+/// Plays the examples that the arguments name. If the first argument is `scarce`, does what the
+/// others ask for as the module `scarce` says.
 fn main(rt: HostRuntime) -> io::Result<ExitCode> {
     let words = std::env::args(&rt)?
         .skip(1)

@@ -7,7 +7,8 @@ use cam6_wire::{LineFault, fault_text, read_command};
 use std::alloc::Global;
 use std::io;
 
-/// What each line says, as the plainest line of its command, or the line's fault.
+/// Reads each line as a command. Returns, for each, the plainest line of its command, or the line's
+/// fault.
 pub fn readings(alloc: Global, sent: &[Sent]) -> io::Result<Vec<u8>> {
     let mut answers = Vec::new(alloc);
     for line in sent {
@@ -20,7 +21,7 @@ pub fn readings(alloc: Global, sent: &[Sent]) -> io::Result<Vec<u8>> {
     Ok(answers)
 }
 
-/// Adds a command as a line that says it, or the text of a line's fault.
+/// Adds the plainest line of a command to `answers`, or the line of a fault.
 fn add_command(
     alloc: Global,
     answers: &mut Vec<u8>,

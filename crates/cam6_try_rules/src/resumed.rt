@@ -22,6 +22,7 @@ struct Counting<'a, W> {
 }
 
 impl<W: Write> Write for Counting<'_, W> {
+    /// Writes bytes, and counts the LFs among those that were taken.
     fn write(&mut self, bytes: &[u8]) -> io::Result<usize> {
         let taken = self.writer.write(bytes)?;
         for byte in &bytes[..taken] {
@@ -32,19 +33,22 @@ impl<W: Write> Write for Counting<'_, W> {
         Ok(taken)
     }
 
+    /// Flushes the writer.
     fn flush(&mut self) -> io::Result<()> {
         self.writer.flush()
     }
 }
 
-/// Answers lines as a blank machine does. If an allocation fails for a line, writes `done` if its
-/// command was done, or else `again`, and answers the line again.
+/// Writes a blank machine's answers to lines. If an allocation fails for a line, writes `done` if
+/// its command was done, and goes on after it. Otherwise writes `again`, and answers the line
+/// again.
 pub fn answer_all<W: Write>(alloc: Global, lines: &[u8], writer: &mut W) -> io::Result<()> {
     let mut machine = Machine::new(alloc, Side::S256).map_err(|_| no_memory())?;
     answer_from(alloc, lines, writer, &mut machine)
 }
 
-/// The same, beginning with this machine.
+/// Writes this machine's answers to lines. If an allocation fails for a line, writes `done` if its
+/// command was done, and goes on after it. Otherwise writes `again`, and answers the line again.
 fn answer_from<W: Write>(
     alloc: Global,
     lines: &[u8],
@@ -69,7 +73,7 @@ fn answer_from<W: Write>(
     Err(io::Error::from(ErrorKind::Other))
 }
 
-/// The lines after the first `number`.
+/// Returns the lines after the first `number` of them.
 fn lines_after(lines: &[u8], number: usize) -> &[u8] {
     let mut rest = lines;
     for _ in 0..number {

@@ -17,7 +17,7 @@ use std::io;
 use std::io::{Input, Read, Write};
 use std::process::ExitCode;
 
-/// Does what the arguments ask for.
+/// Does what the arguments after `scarce` ask for: answers a session, or plays lines in a way.
 pub fn work<R: Input + Print + AllocGlobal>(rt: &R, words: &[String]) -> io::Result<ExitCode> {
     match words {
         [word] if word.as_str() == "session" => answer_session(rt)?,
@@ -27,14 +27,14 @@ pub fn work<R: Input + Print + AllocGlobal>(rt: &R, words: &[String]) -> io::Res
     Ok(ExitCode::SUCCESS)
 }
 
-/// Answers the lines of standard input as a blank machine does.
+/// Prints a blank machine's answers to the lines of standard input.
 fn answer_session<R: Input + Print + AllocGlobal>(rt: &R) -> io::Result<()> {
     let mut lines = Vec::new(rt.alloc());
     rt.reader().read_to_end(&mut lines)?;
     resumed::answer_all(rt.alloc(), lines.as_slice(), &mut io::writer(rt))
 }
 
-/// Plays the lines of standard input in a way.
+/// Plays the lines of standard input in the way that these words say, and prints what comes back.
 fn play_lines<R: Input + Print + AllocGlobal>(rt: &R, words: &str) -> io::Result<()> {
     let way = LineWay::read(rt.alloc(), words).map_err(|_| no_memory())?;
     let sent = lines_given(rt)?;
@@ -49,7 +49,7 @@ fn play_lines<R: Input + Print + AllocGlobal>(rt: &R, words: &str) -> io::Result
     }
 }
 
-/// The lines of standard input.
+/// Returns the lines of standard input.
 fn lines_given<R: Input + AllocGlobal>(rt: &R) -> io::Result<Vec<Sent>> {
     let text = io::read_to_string(rt.alloc(), rt.reader())?;
     let mut sent = Vec::new(rt.alloc());

@@ -19,6 +19,7 @@ pub enum LineWay {
 }
 
 impl Way for LineWay {
+    /// Reads the words after `as` as a way to play lines. Any other words are an error.
     fn read(alloc: Global, words: &str) -> Result<LineWay, Unplayable> {
         match words.split_once(' ').unwrap_or((words, "")) {
             ("readings", "") => Ok(LineWay::Readings),
@@ -29,6 +30,7 @@ impl Way for LineWay {
 }
 
 impl Played for LineWay {
+    /// Plays lines in this way. Returns what comes back, once.
     fn played(&self, alloc: Global, sent: &[Sent]) -> io::Result<Vec<Vec<u8>>> {
         match self {
             LineWay::Readings => Ok(vec![in alloc; readings(alloc, sent)?]?),

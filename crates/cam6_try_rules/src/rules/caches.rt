@@ -25,7 +25,7 @@ use std::io;
 /// A cache with the key that it is asked by, and room for the tables by which a rule is tried
 /// first.
 #[derive(Drop)]
-struct Asked {
+struct TestedCache {
     cache: TableCache,
     key: Key,
     /// The table of the last load.
@@ -34,11 +34,12 @@ struct Asked {
     inverse: Table,
 }
 
-impl Asked {
-    /// An empty cache of so many tables, at least one and at most 64, if there is memory.
-    fn new(alloc: Global, capacity: usize) -> Option<Asked> {
+impl TestedCache {
+    /// Makes an empty cache of so many tables, at least one and at most 64. Returns `None` if
+    /// memory runs out.
+    fn new(alloc: Global, capacity: usize) -> Option<TestedCache> {
         let capacity = capacity.clamp(1, MAX_CAPACITY);
-        Some(Asked {
+        Some(TestedCache {
             cache: TableCache::new(alloc, capacity).ok()?,
             key: Key::scratch(alloc).ok()?,
             out: Table::blank(alloc).ok()?,
@@ -48,21 +49,23 @@ impl Asked {
     }
 }
 
-/// What comes back for each line.
+/// Does what each line says, at a new cache of so many tables. Returns what comes back for each
+/// line.
 pub fn loads(alloc: Global, capacity: usize, sent: &[Sent]) -> io::Result<Vec<u8>> {
-    let mut asked = Asked::new(alloc, capacity).ok_or(no_memory())?;
+    let mut asked = TestedCache::new(alloc, capacity).ok_or(no_memory())?;
     let mut answers = Vec::new(alloc);
     for line in sent {
-        add_answer(alloc, &mut answers, &mut asked, line.bytes.as_slice())?;
+        answer_line(alloc, &mut answers, &mut asked, line.bytes.as_slice())?;
     }
     Ok(answers)
 }
 
-/// Adds what comes back for a line.
-fn add_answer(
+/// Does what a line says, `load`, `undo`, `table` or `evict`, and adds its answer. The answer to
+/// any other line is `unread`.
+fn answer_line(
     alloc: Global,
     answers: &mut Vec<u8>,
-    asked: &mut Asked,
+    asked: &mut TestedCache,
     line: &[u8],
 ) -> io::Result<()> {
     let line = text_of(line)?;
@@ -75,14 +78,17 @@ fn add_answer(
     }
 }
 
+/// Adds the line `true` or `false`.
 fn add_truth(answers: &mut Vec<u8>, is_so: bool) -> io::Result<()> {
     add_line(answers, if is_so { "true" } else { "false" })
 }
 
+/// Loads the table that a line `HALF HOOD MINOR TEXT` asks for, or its inverse if `inverted`. Adds
+/// the line `true` if the cache had it and else `false`, or why there is none.
 fn add_load(
     alloc: Global,
     answers: &mut Vec<u8>,
-    asked: &mut Asked,
+    asked: &mut TestedCache,
     rest: &str,
     inverted: bool,
 ) -> io::Result<()> {
@@ -95,10 +101,11 @@ fn add_load(
     }
 }
 
-/// Loads a table, and says whether it was kept; or why the text has none.
+/// Loads the table of a rule's text from the cache, or its inverse if `inverted`. Returns whether
+/// the cache had it, or the text for why there is none.
 fn load(
     alloc: Global,
-    asked: &mut Asked,
+    asked: &mut TestedCache,
     wiring: Wiring,
     text: &str,
     inverted: bool,
@@ -115,8 +122,8 @@ fn load(
     Ok(Ok(asked.cache.load(key, &code, &mut asked.out)))
 }
 
-/// Why a rule that is to be undone can't be. Returns `None` if it can be, or if it isn't to be
-/// undone.
+/// Returns why the inverse of a rule's table can't be loaded. Returns `None` if it can be, or if no
+/// inverse is asked for. `text` is for the contract only.
 fn why_refused(
     wiring: Wiring,
     text: &str,

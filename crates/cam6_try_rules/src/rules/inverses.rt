@@ -22,8 +22,8 @@ struct Scratch {
     inverse: Table,
 }
 
-/// The inverse of each rule's table, or the inverse of that one, in lines of 64 entries; or why there
-/// is none.
+/// Inverts the table of each rule's text, once or twice. Returns the entries of each result in
+/// lines of 64, or a line for why there is none.
 pub fn inverses(alloc: Global, wiring: Wiring, times: Times, sent: &[Sent]) -> io::Result<Vec<u8>> {
     let table = Table::blank(alloc).map_err(|_| no_memory())?;
     let inverse = Table::blank(alloc).map_err(|_| no_memory())?;
@@ -38,7 +38,8 @@ pub fn inverses(alloc: Global, wiring: Wiring, times: Times, sent: &[Sent]) -> i
     Ok(answers)
 }
 
-/// Makes the room's `inverse` what is shown of a rule's text, or returns why there is none.
+/// Inverts the table of a rule's text, once or twice, into `scratch.inverse`. Or returns the text
+/// for why there is no inverse.
 fn filled(
     alloc: Global,
     wiring: Wiring,
@@ -62,8 +63,8 @@ fn filled(
     }
 }
 
-/// Fills the table of a rule's text, and its inverse. Or returns the text's fault, the least
-/// address at which the rule stops, or why there is no inverse.
+/// Fills `table` by a rule's text, and `inverse` with its inverse. Or returns the text for the
+/// fault, for the least address at which the rule stops, or for why there is no inverse.
 fn inverse_of_text(
     alloc: Global,
     wiring: Wiring,
@@ -77,7 +78,7 @@ fn inverse_of_text(
     }
 }
 
-/// Makes `inverse` that of a table, or returns why the table has none.
+/// Fills `inverse` with the inverse of a table, or returns the text for why the table has none.
 fn inverse_of(
     alloc: Global,
     wiring: Wiring,
@@ -90,7 +91,7 @@ fn inverse_of(
     }
 }
 
-/// The text for why a table has no inverse.
+/// Returns the text for why a table has no inverse.
 pub fn cause_text(alloc: Global, cause: NotReversible) -> io::Result<String> {
     match cause {
         NotReversible::Hood => Ok(String::from_str(alloc, "hood")?),

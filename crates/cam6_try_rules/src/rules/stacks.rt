@@ -10,8 +10,8 @@ use std::io;
 /// The most values that a stack holds.
 const VALUES: u32 = 32;
 
-/// What each text's words leave, the top value last, or the fault at which they stop. A full stack
-/// can't be read, since that takes room for one value.
+/// Returns, for each text's words, the values that they leave on the stack, the top value last, or
+/// the fault at which they stop. A full stack can't be read, since that takes room for one value.
 pub fn stacks(alloc: Global, sent: &[Sent]) -> io::Result<Vec<u8>> {
     let mut answers = Vec::new(alloc);
     for text in sent {
@@ -24,7 +24,8 @@ pub fn stacks(alloc: Global, sent: &[Sent]) -> io::Result<Vec<u8>> {
     Ok(answers)
 }
 
-/// The entry that a body writes at address 0.
+/// Returns the entry that a definition with this body writes at address 0, or the fault at which it
+/// stops.
 fn written_by(alloc: Global, body: &str) -> io::Result<Result<u8, RuleFault>> {
     let text = format!(in alloc; ": R {body} ;")?;
     let wiring = Wiring {
@@ -40,7 +41,7 @@ fn written_by(alloc: Global, body: &str) -> io::Result<Result<u8, RuleFault>> {
     Ok(eval(&code, 0, &mut steps))
 }
 
-/// The words, and then so many `DROP`.
+/// Returns the text of the words, and then of `DROP` as often as `values` says.
 fn dropping(alloc: Global, words: &str, values: u32) -> io::Result<String> {
     let mut body = String::from_str(alloc, words)?;
     for _ in 0..values {
@@ -49,6 +50,7 @@ fn dropping(alloc: Global, words: &str, values: u32) -> io::Result<String> {
     Ok(body)
 }
 
+/// Adds a line with the values that words leave on the stack, the top value last.
 fn add_values(alloc: Global, answers: &mut Vec<u8>, words: &str) -> io::Result<()> {
     let mut left = 0;
     for values in 1..=VALUES {
@@ -67,7 +69,7 @@ fn add_values(alloc: Global, answers: &mut Vec<u8>, words: &str) -> io::Result<(
     add_line(answers, line.as_str())
 }
 
-/// The top value that a body leaves, bit by bit.
+/// Returns the top value that a body leaves, which is found bit by bit.
 fn top_value(alloc: Global, body: &str) -> io::Result<u16> {
     let mut value = 0;
     let mut bit: u16 = 1;

@@ -25,17 +25,18 @@ pub fn read_rule(
     }
 }
 
-/// These bytes as a text. It fails if they aren't UTF-8.
+/// Returns these bytes as a text. Fails if they aren't UTF-8.
 pub fn text_of(bytes: &[u8]) -> io::Result<&str> {
     str::from_utf8(bytes).map_err(|_| io::Error::from(io::ErrorKind::InvalidData))
 }
 
+/// Returns the line of a fault in a rule's text, without its LF.
 fn text_fault(alloc: Global, fault: TextFault) -> io::Result<String> {
     let (number, token) = (fault.number, fault.token);
     Ok(format!(in alloc; r#"{{"fault":{number},"token":{token}}}"#)?)
 }
 
-/// The line of a fault at which a rule stops, without its LF.
+/// Returns the line of a fault at which a rule stops, without its LF.
 pub fn rule_fault(alloc: Global, fault: RuleFault) -> io::Result<String> {
     let number = fault.number();
     Ok(format!(in alloc; r#"{{"fault":{number}}}"#)?)
@@ -52,7 +53,8 @@ pub enum Shown<'a> {
     Entries(&'a [u16]),
 }
 
-/// What is shown of each text's rule, or the text's first fault.
+/// Reads each text as a rule. Returns what is to be shown of each, or the line of the text's first
+/// fault.
 pub fn answered(
     alloc: Global,
     wiring: Wiring,
@@ -69,6 +71,7 @@ pub fn answered(
     Ok(answers)
 }
 
+/// Adds what is to be shown of a rule to `answers`: `ok`, its definitions, or some of its entries.
 fn add_shown(
     alloc: Global,
     answers: &mut Vec<u8>,
@@ -82,6 +85,7 @@ fn add_shown(
     }
 }
 
+/// Adds a line with a rule's wiring, and the name, size and words of each definition.
 fn add_rule(alloc: Global, answers: &mut Vec<u8>, rule: &Rule) -> io::Result<()> {
     let wiring = rule.wiring();
     let (half, hood) = (wiring.half.text(), wiring.hood.text());
@@ -95,6 +99,7 @@ fn add_rule(alloc: Global, answers: &mut Vec<u8>, rule: &Rule) -> io::Result<()>
     Ok(())
 }
 
+/// Adds the name, size and words of a definition, within a line.
 fn add_definition(alloc: Global, answers: &mut Vec<u8>, definition: &Definition) -> io::Result<()> {
     answers.extend_from_slice(b" | ")?;
     answers.extend_from_slice(definition.name.as_slice())?;
@@ -107,7 +112,7 @@ fn add_definition(alloc: Global, answers: &mut Vec<u8>, definition: &Definition)
     Ok(())
 }
 
-/// A space and the word. A single word has the name of what it says.
+/// Returns a space and the name of a word.
 fn word_text(alloc: Global, word: Word) -> io::Result<String> {
     match word {
         Word::Single(said) => Ok(format!(in alloc; " {said:?}")?),
@@ -115,6 +120,7 @@ fn word_text(alloc: Global, word: Word) -> io::Result<String> {
     }
 }
 
+/// Adds a line with a rule's entries at these addresses. Where the rule stops, it has the fault.
 fn add_entries(
     alloc: Global,
     answers: &mut Vec<u8>,
@@ -137,7 +143,8 @@ fn add_entries(
     Ok(())
 }
 
-/// The table of each rule, in lines of 64 entries, or the least address at which it stops.
+/// Returns the table of each rule's text, in lines of 64 entries. If a text has none, returns its
+/// fault, or the least address at which the rule stops.
 pub fn tables(alloc: Global, wiring: Wiring, sent: &[Sent]) -> io::Result<Vec<u8>> {
     let mut answers = Vec::new(alloc);
     let mut table = Table::blank(alloc).map_err(|_| no_memory())?;
@@ -145,7 +152,8 @@ pub fn tables(alloc: Global, wiring: Wiring, sent: &[Sent]) -> io::Result<Vec<u8
     Ok(answers)
 }
 
-/// The same, in this room for a table.
+/// Adds the table of each rule's text to `answers`, in lines of 64 entries. If a text has none,
+/// adds its fault, or the least address at which the rule stops. Uses `table` as scratch.
 fn add_tables(
     alloc: Global,
     answers: &mut Vec<u8>,
@@ -162,8 +170,8 @@ fn add_tables(
     Ok(())
 }
 
-/// Makes the table that of a rule's text, or returns the text's fault, or the least address at
-/// which the rule stops.
+/// Fills `table` by a rule's text. Or returns the line of the text's fault, or of the least address
+/// at which the rule stops.
 pub fn fill_by_text(
     alloc: Global,
     wiring: Wiring,
@@ -176,8 +184,8 @@ pub fn fill_by_text(
     }
 }
 
-/// Returns the code of a rule's text, and makes the table the rule's. Or returns the text's fault,
-/// or the least address at which the rule stops.
+/// Compiles a rule's text, and fills `table` by it. Returns the code. Or returns the line of the
+/// text's fault, or of the least address at which the rule stops.
 pub fn code_of(
     alloc: Global,
     wiring: Wiring,
@@ -199,12 +207,12 @@ pub fn code_of(
     }
 }
 
-/// Adds a table's entries, 64 in a line.
-pub fn add_table(answers: &mut Vec<u8>, table: &Table) -> io::Result<()> {
+/// Adds a table's entries to `output`, 64 in a line.
+pub fn add_table(output: &mut Vec<u8>, table: &Table) -> io::Result<()> {
     for address in 0..ENTRIES {
-        answers.push(b"0123"[usize::from(table.at(address) & 3)])?;
+        output.push(b"0123"[usize::from(table.at(address) & 3)])?;
         if address % LINE == LINE - 1 {
-            answers.push(b'\n')?;
+            output.push(b'\n')?;
         }
     }
     Ok(())

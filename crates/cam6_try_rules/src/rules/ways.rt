@@ -31,6 +31,7 @@ pub enum RuleWay {
 }
 
 impl Way for RuleWay {
+    /// Reads the words after `as` as a way to play texts of rules. Any other words are an error.
     fn read(alloc: Global, words: &str) -> Result<RuleWay, Unplayable> {
         match words.split_once(' ').unwrap_or((words, "")) {
             ("stacks", "") => Ok(RuleWay::Stacks),
@@ -49,6 +50,7 @@ impl Way for RuleWay {
 }
 
 impl Played for RuleWay {
+    /// Plays texts of rules in this way. Returns what comes back, once.
     fn played(&self, alloc: Global, sent: &[Sent]) -> io::Result<Vec<Vec<u8>>> {
         let answers = match self {
             RuleWay::Texts(wiring) => texts::answered(alloc, *wiring, Shown::Nothing, sent),
@@ -66,14 +68,15 @@ impl Played for RuleWay {
     }
 }
 
-/// The way of `WIRING at ADDRESS ..`.
+/// Reads `WIRING at ADDRESS ..` as the way that shows entries at these addresses.
 fn entries_way(alloc: Global, text: &str) -> Result<RuleWay, Unplayable> {
     let (wiring, addresses) = text.split_once(" at ").ok_or(Unplayable::Unread)?;
     let wiring = wiring_of(wiring)?;
     Ok(RuleWay::Entries(wiring, addresses_of(alloc, addresses)?))
 }
 
-/// How many tables a cache keeps, 1 to 64.
+/// Returns how many tables a cache holds, from a text with a number from 1 to 64. Any other text is
+/// an error.
 fn capacity_of(text: &str) -> Result<usize, Unplayable> {
     let capacity = text.parse().map_err(|_| Unplayable::Unread)?;
     if (1..=MAX_CAPACITY).contains(&capacity) {
@@ -83,6 +86,7 @@ fn capacity_of(text: &str) -> Result<usize, Unplayable> {
     }
 }
 
+/// Returns the addresses in a text, with spaces between them.
 fn addresses_of(alloc: Global, text: &str) -> Result<Vec<u16>, Unplayable> {
     let mut addresses = Vec::new(alloc);
     for address in text.split(' ') {
