@@ -12,7 +12,8 @@ use std::alloc::{AllocError, Global};
 use std::process::Abort;
 use std::test::Fail;
 
-/// Commands of several kinds, by their number; a blank machine of 256 columns is asked all of them.
+/// Returns the command of this number in a list of several kinds. A blank machine of 256 columns is
+/// asked all of them.
 fn command(number: usize) -> Command {
     match number {
         0 => Command::Clear { plane: 3 },
@@ -24,7 +25,8 @@ fn command(number: usize) -> Command {
     }
 }
 
-/// Whether this is the reply to that command. Side 256 has 65,536 cells, and side 128 16,384.
+/// Returns whether this is the reply to the command of this number. Side 256 has 65,536 cells, and
+/// side 128 16,384.
 fn is_its_reply(number: usize, reply: &Reply) -> bool {
     match number {
         0 => matches!(reply, Reply::Done(Done::Clear)),
@@ -37,6 +39,7 @@ fn is_its_reply(number: usize, reply: &Reply) -> bool {
     }
 }
 
+/// Returns the list of the seven commands.
 fn commands(alloc: Global) -> Result<Vec<Command>, AllocError> {
     let mut commands = Vec::new(alloc);
     for number in 0..7 {
@@ -45,6 +48,7 @@ fn commands(alloc: Global) -> Result<Vec<Command>, AllocError> {
     Ok(commands)
 }
 
+/// Checks that there are seven replies, each to the command of its number.
 fn check_replies(rt: &impl Abort, replies: &[Reply]) {
     assert_eq!(rt; replies.len(), 7);
     for (number, reply) in replies.iter().enumerate() {
@@ -52,6 +56,7 @@ fn check_replies(rt: &impl Abort, replies: &[Reply]) {
     }
 }
 
+/// A list of commands has their replies.
 #[test]
 fn lists_are_answered(rt: HostRuntime) -> Result<(), NoMemory> {
     let commands = commands(rt.alloc())?;
@@ -60,7 +65,7 @@ fn lists_are_answered(rt: HostRuntime) -> Result<(), NoMemory> {
     Ok(())
 }
 
-// Tables and boards begin empty, and a board that is to fail hasn't yet.
+/// Tables and boards begin empty, and a board that is to fail hasn't failed yet.
 #[test]
 fn blank_things_are_made(rt: HostRuntime) -> Result<(), Fail> {
     let alloc = rt.alloc();
@@ -75,7 +80,7 @@ fn blank_things_are_made(rt: HostRuntime) -> Result<(), Fail> {
     Ok(())
 }
 
-/// The reply that saves a blank machine of side 128.
+/// Returns the reply that saves a blank machine of side 128.
 fn saving_reply(alloc: Global) -> Result<Reply, NoMemory> {
     let mut machine = Machine::new(alloc, Side::S128)?;
     let reply = machine.reply_to(Command::Save);
@@ -83,7 +88,7 @@ fn saving_reply(alloc: Global) -> Result<Reply, NoMemory> {
     reply
 }
 
-/// The command that loads what a reply saved.
+/// Returns the command that loads what a reply saved, or `None` if the reply saved nothing.
 fn loading(reply: Reply) -> Option<Command> {
     match reply {
         Reply::Done(Done::Save { machine }) => Some(Command::Load { machine }),
@@ -91,7 +96,8 @@ fn loading(reply: Reply) -> Option<Command> {
     }
 }
 
-/// The events by which user 1 has a command done, then counts the cells of no state.
+/// Returns four events of user 1: the command is asked and collected, and then a count of the cells
+/// of no state.
 fn asked_for(alloc: Global, command: Command) -> Result<Vec<Event>, AllocError> {
     let mut events = Vec::new(alloc);
     events.push(Event::Ask(1, command))?;
@@ -99,7 +105,7 @@ fn asked_for(alloc: Global, command: Command) -> Result<Vec<Event>, AllocError> 
     Ok(events)
 }
 
-/// Adds that what was asked for is collected, and the count.
+/// Adds three events: the first command is collected, and then a count is asked and collected.
 fn add_the_rest(events: &mut Vec<Event>) -> Result<(), AllocError> {
     events.push(Event::Collect(1))?;
     events.push(Event::Ask(1, Command::Count { mask: 0 }))?;
@@ -107,7 +113,7 @@ fn add_the_rest(events: &mut Vec<Event>) -> Result<(), AllocError> {
     Ok(())
 }
 
-/// Whether this is the outcome of the event of the number.
+/// Returns whether this is the outcome of the event of this number.
 fn is_its_outcome(number: usize, outcome: &Outcome) -> bool {
     use Outcome::{Asked, Collected};
     match number {
@@ -117,6 +123,7 @@ fn is_its_outcome(number: usize, outcome: &Outcome) -> bool {
     }
 }
 
+/// Checks that there are four outcomes, each of the event of its number.
 fn check_outcomes(rt: &impl Abort, outcomes: &[Outcome]) {
     assert_eq!(rt; outcomes.len(), 4);
     for (number, outcome) in outcomes.iter().enumerate() {
@@ -124,7 +131,7 @@ fn check_outcomes(rt: &impl Abort, outcomes: &[Outcome]) {
     }
 }
 
-/// The outcomes of events in a new core of one user.
+/// Does events in a new core of one user, and returns their outcomes.
 fn outcomes(alloc: Global, events: Vec<Event>) -> Result<Vec<Outcome>, NoMemory> {
     let mut core = Core::new(alloc, 1, 1, 1, [Side::S256].as_slice())?;
     let outcomes = run(alloc, &mut core, events);
@@ -132,7 +139,7 @@ fn outcomes(alloc: Global, events: Vec<Event>) -> Result<Vec<Outcome>, NoMemory>
     outcomes
 }
 
-// A line of events asks for no load, but a list of events may.
+/// A list of events with a load has their outcomes. A line of events asks for no load.
 #[test]
 fn events_run(rt: HostRuntime) -> Result<(), Fail> {
     let command = loading(saving_reply(rt.alloc())?).ok_or("nothing was saved")?;

@@ -19,14 +19,15 @@ const WIRING: Wiring = Wiring {
     minor: Minor::Phases,
 };
 
-/// The table of billiard balls, if their text is a rule that stops nowhere.
+/// Returns the table of the billiard-ball rule, or `None` if its text is no rule or memory runs
+/// out.
 fn billiards(alloc: Global) -> Option<Table> {
     let mut table = Table::blank(alloc).ok()?;
     let _code = compile(alloc, WIRING, BILLIARDS, &mut table).ok()?;
     Some(table)
 }
 
-/// The step after so many bands more. None of them is the last.
+/// Does this many more bands of a step, and returns the step. None of them is the last.
 fn after_bands(rt: &impl Abort, mid: MidStep, tables: &EntryTables, bands: u16) -> MidStep {
     let mut mid = mid;
     for _band in 0..bands {
@@ -38,7 +39,7 @@ fn after_bands(rt: &impl Abort, mid: MidStep, tables: &EntryTables, bands: u16) 
     mid
 }
 
-/// The planes after the last band.
+/// Does the last band of a step, and returns its image.
 fn last_band(rt: &impl Abort, mid: MidStep, tables: &EntryTables) -> AtRest {
     match mid.band(tables) {
         Next::Whole(image) => image,
@@ -49,7 +50,8 @@ fn last_band(rt: &impl Abort, mid: MidStep, tables: &EntryTables) -> AtRest {
     }
 }
 
-/// Checks that so many bands of the step are done, on a torus of this side, which is its limit too.
+/// Checks that this many bands of the step are done, on a torus of this side, which is its limit
+/// too.
 fn check_mid(rt: &impl Abort, mid: &MidStep, side: Side, bands: u16) {
     let got = (mid.rows() / 16, mid.side(), mid.limit());
     same_at(rt, &got, &(bands, side, side), &side);
@@ -62,9 +64,10 @@ fn moved(rt: &impl Abort, mid: MidStep, spare: Spare) -> (MidStep, Side) {
     (mid, spare.limit())
 }
 
-/// A step of the ball at column 0 of row 0 is moved after so many bands. By hand, from the picture of
-/// the two grids: on the odd one that cell is the lower right one of its block. The upper left one
-/// stands at the last column of the last row.
+/// Checks that a step of a lone ball is right if it is moved to another image after this many
+/// bands. The ball is at column 0 of row 0. By hand, from the picture of the two grids: on the odd
+/// one that cell is the lower right one of its block. The upper left one stands at the last column
+/// of the last row.
 fn check_moved(
     rt: &impl Abort,
     alloc: Global,
@@ -86,7 +89,7 @@ fn check_moved(
     Ok(())
 }
 
-/// Plane 0 has a lone cell, at the last column of the last row.
+/// Checks that plane 0 has a lone cell, at the last column of the last row.
 fn check_ball(rt: &impl Abort, planes: &Planes) {
     let last = planes.side().number() - 1;
     for row in 0..last {
@@ -95,7 +98,7 @@ fn check_ball(rt: &impl Abort, planes: &Planes) {
     check_row(rt, planes, 0, last, lone(last));
 }
 
-// After one band, and after all but the last.
+/// A step is moved after one band, and after all but the last.
 #[test]
 fn a_step_is_moved(rt: HostRuntime) -> Result<(), NoMemory> {
     let table = billiards(rt.alloc()).ok_or(NoMemory)?;

@@ -12,13 +12,18 @@ use std::io::{self, BufRead, ErrorKind, Read, Write};
 #[derive(Drop)]
 pub(crate) struct Desk {
     pub(crate) machine: Machine,
-    pub(crate) answers: usize,
+    pub(crate) answers_left: usize,
 }
 
 impl Desk {
-    pub(crate) fn new(alloc: Global, answers: usize) -> Result<Desk, NoMemory> {
+    /// Makes a desk at a blank machine of limit 256. It answers so many commands, and runs out of
+    /// memory at the next.
+    pub(crate) fn new(alloc: Global, answers_left: usize) -> Result<Desk, NoMemory> {
         let machine = Machine::new(alloc, Side::S256)?;
-        Ok(Desk { machine, answers })
+        Ok(Desk {
+            machine,
+            answers_left,
+        })
     }
 }
 
@@ -32,11 +37,12 @@ impl Ask for Desk {
 
     ghost is_ready = { λ _. ⊤ };
 
+    /// Returns the machine's reply to a command. Runs out of memory if no answers are left.
     fn ask(&mut self, command: Command) -> Result<Reply, NoMemory> {
-        if self.answers == 0 {
+        if self.answers_left == 0 {
             return Err(NoMemory);
         }
-        self.answers -= 1;
+        self.answers_left -= 1;
         self.machine.reply_to(command)
     }
 }
@@ -50,12 +56,14 @@ pub(crate) struct Shown<'a> {
 }
 
 impl Read for Shown<'_> {
+    /// Fails: these bytes are read through `fill_buf` alone.
     fn read(&mut self, _buf: &mut [u8]) -> io::Result<usize> {
         Err(io::Error::from(ErrorKind::Unsupported))
     }
 }
 
 impl BufRead for Shown<'_> {
+    /// Returns the next bytes, at most `at_once`. Fails if no calls are left.
     fn fill_buf(&mut self) -> io::Result<&[u8]> {
         if self.calls == 0 {
             return Err(io::Error::from(ErrorKind::Other));
@@ -64,6 +72,7 @@ impl BufRead for Shown<'_> {
         Ok(&self.bytes[..self.bytes.len().min(self.at_once)])
     }
 
+    /// Drops the first `amount` bytes.
     fn consume(&mut self, amount: usize) {
         self.bytes = &self.bytes[amount.min(self.bytes.len())..];
     }
@@ -88,8 +97,8 @@ pub(crate) struct Ones {
 }
 
 impl Ones {
-    /// Returns true for so many calls. Any later one fails, or returns false if nothing more is
-    /// taken.
+    /// Counts a call of the writer, and returns true if it succeeds. A call after `calls` calls
+    /// fails as `failure` says: with an error, or by returning false if it takes nothing.
     fn goes_well(&mut self) -> io::Result<bool> {
         if self.calls > 0 {
             self.calls -= 1;
@@ -107,6 +116,7 @@ impl Ones {
 }
 
 impl Write for Ones {
+    /// Takes one byte, or fails if this call is to fail.
     fn write(&mut self, buf: &[u8]) -> io::Result<usize> {
         if buf.is_empty() || !self.goes_well()? {
             return Ok(0);
@@ -115,6 +125,7 @@ impl Write for Ones {
         Ok(1)
     }
 
+    /// Does nothing, or fails if this call is to fail.
     fn flush(&mut self) -> io::Result<()> {
         let _ = self.goes_well()?;
         Ok(())

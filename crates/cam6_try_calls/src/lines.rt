@@ -18,7 +18,7 @@ const HOODS: [Hood; 5] = [
     Hood::MargolusPhase,
 ];
 
-/// Planes with random cells, which are the same ones each time.
+/// Makes planes with pseudorandom cells, which are the same at each call.
 fn without_a_pattern(rt: &impl Abort, alloc: Global, side: Side) -> Result<Planes, NoMemory> {
     let mut planes = Planes::blank(alloc, side)?;
     let mut number: u64 = 1;
@@ -37,7 +37,7 @@ fn without_a_pattern(rt: &impl Abort, alloc: Global, side: Side) -> Result<Plane
     Ok(planes)
 }
 
-/// At each column of a row its lines show the address of the cell there.
+/// Checks that the lines of row `y` have, at each column, the address of the cell there.
 fn check_row(rt: &impl Abort, planes: &Planes, wiring: Wiring, grid: Grid, phase: Phase, y: usize) {
     let side = planes.side().number();
     assert!(rt; y < side);
@@ -55,7 +55,9 @@ fn check_row(rt: &impl Abort, planes: &Planes, wiring: Wiring, grid: Grid, phase
     }
 }
 
-/// The same for each half, grid and phase, in the first two rows and the last two.
+/// Checks that the lines of a row have the addresses of its cells: for each half, grid and phase,
+/// in the first two rows and the last two. Also checks what the corner cells see at their
+/// diagonals.
 fn check_rows(rt: &impl Abort, planes: &Planes, hood: Hood, minor: Minor) {
     let last = planes.side().number() - 1;
     for half in [Half::A, Half::B] {
@@ -73,7 +75,8 @@ fn check_rows(rt: &impl Abort, planes: &Planes, hood: Hood, minor: Minor) {
     }
 }
 
-/// What a cell sees under the primed names of diagonal cells, which no wiring has.
+/// Checks what the cell at column `x` of row `y` sees under the primed names of diagonal cells,
+/// which no wiring has.
 fn check_diagonals(rt: &impl Abort, planes: &Planes, half: Half, x: usize, y: usize) {
     let side = planes.side().number();
     assert!(rt; x < side && y < side);
@@ -93,7 +96,8 @@ fn check_diagonals(rt: &impl Abort, planes: &Planes, half: Half, x: usize, y: us
     }
 }
 
-// On random planes: each neighbourhood with each minor assignment.
+/// The lines of rows have the addresses of cells, on random planes: for each neighbourhood with
+/// each minor assignment.
 #[test]
 fn lines_show_addresses(rt: HostRuntime) -> Result<(), NoMemory> {
     for side in [Side::S128, Side::S256, Side::S512] {
@@ -107,7 +111,8 @@ fn lines_show_addresses(rt: HostRuntime) -> Result<(), NoMemory> {
     Ok(())
 }
 
-// From the picture of the two grids round the corner of the torus.
+/// Cells have their corners of blocks, from the picture of the two grids round the corner of the
+/// torus.
 #[test]
 fn corners_of_cells(rt: HostRuntime) {
     for (grid, x, y, want) in [
@@ -124,7 +129,8 @@ fn corners_of_cells(rt: HostRuntime) {
     }
 }
 
-// From the picture of a block: the places run clockwise from the upper left one.
+/// Rotations lead to other places of a block, from its picture: the places run clockwise from the
+/// upper left one.
 #[test]
 fn rotations_in_a_block(rt: HostRuntime) {
     use Compass::{East, North, NorthEast, NorthWest, South, SouthEast, SouthWest, West};

@@ -11,18 +11,22 @@ use std::process::Abort;
 // answer that is released, so an answer takes five calls.
 const ANSWERS: &[u8] = b"one\ntwo\n";
 
-/// Whether an answer is taken and then released.
+/// Writes an answer to an outbox and releases it. Returns whether both succeed.
 fn goes(outbox: &mut Outbox<Ones>, answer: &[u8]) -> bool {
     let is_taken = outbox.write_all(answer).is_ok();
     outbox.release().is_ok() && is_taken
 }
 
-/// Which answers go to a writer that fails at this call, counted from 0, and at no other. And
-/// whether it gets these bytes of them.
-fn sent(alloc: Global, calls: usize, want: &[u8]) -> io::Result<(bool, bool, bool)> {
+/// Sends two answers to a writer that fails at this call only, counted from 0. Returns whether each
+/// is taken and released, and whether the writer has exactly `want`.
+fn send_with_one_failure(
+    alloc: Global,
+    failing_call: usize,
+    want: &[u8],
+) -> io::Result<(bool, bool, bool)> {
     let writer = Ones {
         bytes: Vec::new(alloc),
-        calls,
+        calls: failing_call,
         failure: Failure::Once,
     };
     let mut outbox = Outbox::new(alloc, writer)?;
@@ -32,19 +36,28 @@ fn sent(alloc: Global, calls: usize, want: &[u8]) -> io::Result<(bool, bool, boo
     Ok((first, second, is_got))
 }
 
-// What was sent before the writer failed stays sent. Nothing is sent after that, though the writer
-// would take it.
+/// An outbox sends nothing after its writer has failed once, though the writer would take it. What
+/// was sent before stays sent.
 #[test]
 fn an_outbox_is_broken_for_good(rt: HostRuntime) -> io::Result<()> {
     let alloc = rt.alloc();
     for calls in 0..5 {
         let want = &ANSWERS[..calls];
-        assert_eq!(rt; sent(alloc, calls, want)?, (false, false, true));
+        assert_eq!(rt;
+            send_with_one_failure(alloc, calls, want)?,
+            (false, false, true)
+        );
     }
     for calls in 5..10 {
         let want = &ANSWERS[..calls - 1];
-        assert_eq!(rt; sent(alloc, calls, want)?, (true, false, true));
+        assert_eq!(rt;
+            send_with_one_failure(alloc, calls, want)?,
+            (true, false, true)
+        );
     }
-    assert_eq!(rt; sent(alloc, 10, ANSWERS)?, (true, true, true));
+    assert_eq!(rt;
+        send_with_one_failure(alloc, 10, ANSWERS)?,
+        (true, true, true)
+    );
     Ok(())
 }

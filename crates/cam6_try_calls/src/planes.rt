@@ -4,7 +4,7 @@ use cam6_planes::{COLUMNS, DIGITS, NoMemory, Planes, Row, Side, WORDS, east, wes
 use std::fmt::Debug;
 use std::process::Abort;
 
-/// Both values are the same at this place, which a failure names. An assertion costs its proof
+/// Checks that both values are equal. A failure names this place. An assertion costs its proof
 /// wherever it is written, so it stands here.
 pub(crate) fn same_at<R: Abort, T: PartialEq + Debug, P: Debug>(
     rt: &R,
@@ -15,12 +15,13 @@ pub(crate) fn same_at<R: Abort, T: PartialEq + Debug, P: Debug>(
     assert_eq!(rt; got, want, "at {place:?}");
 }
 
+/// Sets a row of a plane to these machine words.
 pub(crate) fn set_row(rt: &impl Abort, planes: &mut Planes, plane: usize, row: usize, words: Row) {
     assert!(rt; plane < 4 && row < planes.side().number());
     planes.set_row_words(plane, row, words);
 }
 
-/// A row with one column set.
+/// Returns a row with one column set.
 pub(crate) fn lone(column: usize) -> Row {
     let column = column % COLUMNS;
     let mut row = [0; WORDS];
@@ -28,7 +29,7 @@ pub(crate) fn lone(column: usize) -> Row {
     row
 }
 
-// A lone column, with the columns to its east and to its west on the ring, by hand.
+/// A lone column moves to its neighbour to the east and to the west on the ring, by hand.
 #[test]
 fn lone_columns_move(rt: HostRuntime) {
     for (side, column, its_east, its_west) in [
@@ -72,7 +73,8 @@ const BYTES: [u8; 32] = [
     0, 0, 0, 0, 0, 0, 0, 0, 0x80, 0, 0, 0, 0, 0, 0, 0x01,
 ];
 
-// By hand: a digit is four columns, a byte eight and a word 64, the first the highest bit.
+/// A row is set and read by bytes, digits and machine words. By hand: a digit is four columns, a
+/// byte eight and a word 64, the first the highest bit.
 #[test]
 fn digits_bytes_and_words(rt: HostRuntime) -> Result<(), NoMemory> {
     let mut planes = Planes::blank(rt.alloc(), Side::S256)?;
@@ -84,13 +86,14 @@ fn digits_bytes_and_words(rt: HostRuntime) -> Result<(), NoMemory> {
     Ok(())
 }
 
+/// Checks that row `y` of plane `p` is `want`.
 pub(crate) fn check_row(rt: &impl Abort, planes: &Planes, p: usize, y: usize, want: Row) {
     assert!(rt; p < 4 && y < planes.side().number());
     same_at(rt, &planes.row_words(p, y), &want, &(p, y));
 }
 
-/// Row 255 of plane 3 has the digits of `TEXT`, and nothing is written after them. The columns of
-/// row 0 of plane 0 are the bits of `ROW`.
+/// Checks that row 255 of plane 3 has the digits of `TEXT`, and that nothing is written after them.
+/// Checks that the columns of row 0 of plane 0 are the bits of `ROW`.
 fn check_digits(rt: &impl Abort, planes: &Planes) {
     assert!(rt; planes.side().number() == 256);
     let mut text = [b'-'; DIGITS];
@@ -103,8 +106,9 @@ fn check_digits(rt: &impl Abort, planes: &Planes) {
     }
 }
 
-// At a side of 128 a row has two words, and what is written past them isn't there. A copy has the
-// cells and the side of other planes, and stays if these change.
+/// Planes change their side, and are copied. At a side of 128 a row has two words, and what is
+/// written past them isn't there. A copy has the cells and the side of other planes, and stays if
+/// these change.
 #[test]
 fn sides_change(rt: HostRuntime) -> Result<(), NoMemory> {
     let mut planes = Planes::blank(rt.alloc(), Side::S512)?;

@@ -21,7 +21,7 @@ const LINES: &[u8] =
 const ANSWERS: &[u8] =
     b"{\"fault\":63}\n{\"fault\":2}\n{\"ok\":\"cycle\"}\n{\"ok\":\"run\",\"position\":0}\n";
 
-/// The answers to the first lines of the session.
+/// Returns the answers to the first `lines` lines of the session.
 fn answers_to_first(lines: usize) -> &'static [u8] {
     match lines {
         0 => &ANSWERS[..0],
@@ -32,12 +32,13 @@ fn answers_to_first(lines: usize) -> &'static [u8] {
     }
 }
 
+/// Returns how many of the marks are `n` or less.
 fn reached(marks: &[usize], n: usize) -> usize {
     marks.iter().filter(|mark| **mark <= n).count()
 }
 
-/// Whether a machine answers a run of no steps as it does after so many lines of the session. The
-/// third line sets the cycle.
+/// Asks a machine for a run of no steps. Returns whether its reply is the one after this many lines
+/// of the session. The third line sets the cycle.
 fn stands_after(lines: usize, machine: &mut Machine) -> bool {
     match machine.reply_to(Command::Run { n: 0 }) {
         Ok(reply) => is_reply_after(lines, &reply),
@@ -45,6 +46,7 @@ fn stands_after(lines: usize, machine: &mut Machine) -> bool {
     }
 }
 
+/// Returns whether a reply to a run of no steps is the one after this many lines of the session.
 fn is_reply_after(lines: usize, reply: &Reply) -> bool {
     match reply {
         Reply::Done(Done::Run { position: 0 }) => lines >= 3,
@@ -75,8 +77,8 @@ const WELL: Way = Way {
     failure: Failure::Error,
 };
 
-/// What comes of a session if these bytes are to be written and the commands of so many lines to be
-/// done.
+/// Runs the session in this way at a new desk. Returns how it ended, whether exactly `want` was
+/// written, and whether the commands of this many lines were done.
 fn session(alloc: Global, way: Way, want: &[u8], lines: usize) -> Result<Came, NoMemory> {
     let mut desk = Desk::new(alloc, 9)?;
     let came = session_at(alloc, way, want, lines, &mut desk);
@@ -84,6 +86,8 @@ fn session(alloc: Global, way: Way, want: &[u8], lines: usize) -> Result<Came, N
     Ok(came)
 }
 
+/// Runs the session in this way at this desk. Returns how it ended, whether exactly `want` was
+/// written, and whether the commands of this many lines were done.
 fn session_at(alloc: Global, way: Way, want: &[u8], lines: usize, desk: &mut Desk) -> Came {
     let mut reader = Shown {
         bytes: LINES,
@@ -100,9 +104,10 @@ fn session_at(alloc: Global, way: Way, want: &[u8], lines: usize, desk: &mut Des
     (end, is_written, stands_after(lines, &mut desk.machine))
 }
 
-// By hand: each line takes a look for each of its bytes, or for every three and what is left of
-// them, the LF among them; the last takes one more, which shows the input's end. So many reads end a
-// session where so many looks do.
+/// A session ends as it should if its reader fails at a call, or if no reads are left. By hand:
+/// each line takes a look for each of its bytes, or for every three and what is left of them, the
+/// LF among them. The last line takes one more look, which shows the input's end. So many reads end
+/// a session where so many looks do.
 #[test]
 fn readers_fail_at_each_call(rt: HostRuntime) -> Result<(), Fail> {
     for (at_once, marks) in [(1, [19, 24, 93, 112]), (3, [7, 9, 32, 39])] {
@@ -136,15 +141,16 @@ fn readers_fail_at_each_call(rt: HostRuntime) -> Result<(), Fail> {
     Ok(())
 }
 
-/// How many bytes so many calls write, each byte by a call of its own and each answer flushed by
-/// one.
+/// Returns how many bytes of the answers this many calls of the writer write. Each byte takes one
+/// call, and flushing an answer another one.
 fn bytes_of(calls: usize) -> usize {
     let flushes = reached(&[14, 27, 43, 70], calls);
     calls.saturating_sub(flushes).min(66)
 }
 
-// The answer to a line takes a call for each byte, and a flush. A flush takes no byte, so it goes
-// well if a writer takes nothing more. The command of the line being answered is done.
+/// A session ends as it should if its writer fails at a call. The answer to a line takes a call for
+/// each byte, and a flush. A flush takes no byte, so it goes well if a writer takes nothing more.
+/// The command of the line being answered is done.
 #[test]
 fn writers_fail_at_each_call(rt: HostRuntime) -> Result<(), Fail> {
     for (failure, marks) in [
@@ -173,18 +179,22 @@ fn writers_fail_at_each_call(rt: HostRuntime) -> Result<(), Fail> {
 /// whether both wrote all answers.
 type CameAgain = ([End; 2], usize, &'static [u8], bool);
 
-/// A session over this desk, then the rest of it from a line on, with memory.
+/// Serves the session at this desk, and then, with memory, its rest from `line` on. Returns how
+/// both ended, what the first wrote and left, and whether both wrote all answers.
 fn served_at(alloc: Global, desk: &mut Desk, line: &'static [u8]) -> CameAgain {
     let (mut reader, mut again) = (LINES, line);
     let mut writer = Vec::new(alloc);
     let end = serve(alloc, &mut reader, &mut writer, desk, 100);
     let written = writer.len();
-    desk.answers = 9;
+    desk.answers_left = 9;
     let last = serve(alloc, &mut again, &mut writer, desk, 100);
     let is_written = writer.as_slice() == ANSWERS;
     ([end, last], written, reader, is_written)
 }
 
+/// Serves the session at a desk that runs out of memory after so many answers, and then, with
+/// memory, its rest from `line` on. Returns how both ended, what the first wrote and left, and
+/// whether both wrote all answers.
 fn served_again(alloc: Global, answers: usize, line: &'static [u8]) -> Result<CameAgain, NoMemory> {
     let mut desk = Desk::new(alloc, answers)?;
     let came = served_at(alloc, &mut desk, line);
@@ -192,8 +202,8 @@ fn served_again(alloc: Global, answers: usize, line: &'static [u8]) -> Result<Ca
     Ok(came)
 }
 
-// A desk that ran out of memory for a line stands where it stood, and the reader after that line.
-// Served again from that line, with memory, it answers the rest.
+/// A session ends if its desk runs out of memory for a line. The desk stands where it stood, and
+/// the reader after that line. Served again from that line, with memory, it answers the rest.
 #[test]
 fn desks_find_no_memory_at_each_call(rt: HostRuntime) -> Result<(), Fail> {
     let not_done = End::NoMemory { done: false };
@@ -210,8 +220,8 @@ fn desks_find_no_memory_at_each_call(rt: HostRuntime) -> Result<(), Fail> {
     Ok(())
 }
 
-/// Nothing waits at the desk, and its lines are answered, to the end of the input. No cell of a blank
-/// machine has the state 1. The second line isn't JSON, and no cycle is set.
+/// Checks that nothing waits at the desk, and that its lines are answered to the end of the input.
+/// No cell of a blank machine has the state 1. The second line isn't JSON, and no cycle is set.
 fn check_session<R: Abort + Wait + Copy>(rt: R, alloc: Global, desk: cam6_handoff::Desk) {
     assert!(rt; !desk.is_waiting());
     let mut reader = b"{\"do\":\"count\",\"mask\":2}\nnope\n{\"do\":\"run\",\"n\":0}\n".as_slice();
@@ -228,7 +238,8 @@ fn check_session<R: Abort + Wait + Copy>(rt: R, alloc: Global, desk: cam6_handof
     } = desk;
 }
 
-// A command without steps is answered on the desk's own thread, so it needs no board.
+/// A session is answered at a desk of the hand-off table. A command without steps is answered on
+/// the desk's own thread, so it needs no board.
 #[test]
 fn a_session_is_answered_at_a_desk(rt: HostRuntime) -> Result<(), NoMemory> {
     let (desks, _seats) = boot(rt.alloc(), 1, 1, &[Side::S128])?;

@@ -18,7 +18,7 @@ impl<R: Handle> TriedBoard<R> {
     ghost use Rattle.std.specs.Prelude.{◌≡◌, IfOk};
     ghost use Rattle.cam6_board.specs.Held.{empty};
 
-    /// An empty board that fails at this call, or never if there is none. Loads, bands and unloads
+    /// Makes an empty board that fails at this call, or never for `None`. Loads, bands and unloads
     /// are counted together, from 1.
     pub fn new(shared: &Arc<Shared<R>>, call: Option<u64>) -> Result<TriedBoard<R>, NoMemory>
         ensures { IfOk result (λ board. board.inner.load ≡ empty) }
@@ -38,18 +38,23 @@ impl<R: Handle> Board for TriedBoard<R> {
 
     ghost fault_count = { λ board. board.inner.faults };
 
+    /// Returns how often the board failed.
     fn faults(&self) -> u64 {
         self.inner.faults()
     }
 
+    /// Returns how many rows the board's step has done, or `None` if it holds none.
     fn rows(&self) -> Option<u16> {
         self.inner.rows()
     }
 
+    /// Loads a job, or fails if this is the call at which the board fails.
     fn load(&mut self, job: Job, tables: &Tables) -> Result<(), BoardFault> {
         self.inner.load(job, tables)
     }
 
+    /// Does a band of the job. If the shared state holds bands, the first thread that does one is
+    /// held inside. Fails if this is the call at which the board fails.
     fn band(&mut self) -> Result<BandEnd, BoardFault> {
         if self.shared.holds_bands {
             self.shared.hold.pass(&self.shared.rt);
@@ -57,6 +62,7 @@ impl<R: Handle> Board for TriedBoard<R> {
         self.inner.band()
     }
 
+    /// Takes the image from the board, or fails if this is the call at which the board fails.
     fn unload(&mut self) -> Result<Image, BoardFault> {
         self.inner.unload()
     }

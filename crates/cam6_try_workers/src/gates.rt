@@ -32,6 +32,7 @@ pub struct Watch {
 }
 
 impl Watch {
+    /// Makes a gate that notes what it is asked. It answers Go, but once as `once` says.
     pub fn new(alloc: Global, once: Option<Once>) -> Watch {
         Watch {
             once,
@@ -40,8 +41,8 @@ impl Watch {
         }
     }
 
-    /// Answers a worker that asks before a band, and notes the answer. Returns it, and whether the
-    /// board is to be held first.
+    /// Returns the gate's verdict before a band of this user at this board, and notes it. The bool
+    /// says whether the board is to be held first.
     pub fn turn(&mut self, board: u8, user: u8, band: u8) -> (Turn, bool) {
         let (turn, holds) = match self.once {
             Some(once) if once.user == user && once.band == band => {
@@ -60,8 +61,8 @@ impl Watch {
         (turn, holds)
     }
 
-    /// The user's bands in the order in which they were asked for, each with the answer if that
-    /// wasn't Go.
+    /// Returns the numbers of the user's bands in the order in which boards asked for them, each
+    /// with the verdict if that wasn't Go.
     pub fn bands(&self, alloc: Global, user: usize) -> io::Result<String> {
         self.checked()?;
         let mut text = String::new(alloc);
@@ -73,14 +74,14 @@ impl Watch {
         Ok(text)
     }
 
-    /// Whether each of two users had a board, and no board did a band of both.
+    /// Returns whether each of two users had a board, and no board did a band of both.
     pub fn are_apart(&self, one: usize, other: usize) -> io::Result<bool> {
         self.checked()?;
         let (ones, others) = (self.boards(one), self.boards(other));
         Ok(ones != 0 && others != 0 && ones & others == 0)
     }
 
-    /// The boards that did a band of the user, one bit for each.
+    /// Returns the boards that did a band of the user, one bit for each.
     fn boards(&self, user: usize) -> u64 {
         let mut boards: u64 = 0;
         for asked in self.asked.as_slice() {
@@ -100,7 +101,7 @@ impl Watch {
     }
 }
 
-/// Adds a band to the bands of a text, and the answer if that wasn't Go.
+/// Adds the number of a band to a text, and the verdict if that wasn't Go.
 fn add_band(alloc: Global, text: &mut String, asked: Asked) -> io::Result<()> {
     let space = if text.is_empty() { "" } else { " " };
     let answer = match asked.turn {

@@ -22,13 +22,15 @@ pub struct Hold {
 }
 
 impl Hold {
+    /// Makes a hold at which no thread is held.
     pub fn new() -> Hold {
         Hold {
             stage: Mutex::new(Stage::Free),
         }
     }
 
-    /// Holds the first thread that comes by, until it is let go, or for `LOOKS` looks.
+    /// Holds the calling thread if it is the first one here. Returns after the thread is released,
+    /// or after `LOOKS` milliseconds.
     pub fn pass<R: Wait + Clock>(&self, rt: &R) {
         if !self.turn(rt, Stage::Free, Stage::Holding) {
             return;
@@ -42,7 +44,7 @@ impl Hold {
         self.end(rt);
     }
 
-    /// Returns whether a thread is held. Waits for one that may still come by.
+    /// Returns whether a thread is held. Waits until one is, for `LOOKS` milliseconds at most.
     pub fn is_holding<R: Wait + Clock>(&self, rt: &R) -> bool {
         for _ in 0..LOOKS {
             let stage = *self.stage.lock(rt);
@@ -54,17 +56,18 @@ impl Hold {
         false
     }
 
-    /// Lets the thread go, and returns whether one was held.
+    /// Releases the thread that is held, and returns whether there was one.
     pub fn release<R: Wait>(&self, rt: &R) -> bool {
         self.turn(rt, Stage::Holding, Stage::Over)
     }
 
-    /// Lets the thread go, and holds no thread from here on.
+    /// Releases the thread that is held, if there is one, and holds no thread from here on.
     pub fn end<R: Wait>(&self, rt: &R) {
         *self.stage.lock(rt) = Stage::Over;
     }
 
-    /// Goes on from a stage to another, and returns whether it was at the first.
+    /// Changes the stage from one to another. Returns false, and changes nothing, if the hold isn't
+    /// at the first.
     fn turn<R: Wait>(&self, rt: &R, from: Stage, to: Stage) -> bool {
         let mut stage = self.stage.lock(rt);
         let is_there = *stage == from;

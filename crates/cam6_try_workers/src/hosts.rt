@@ -28,7 +28,8 @@ pub struct TestHost<R: Handle> {
 }
 
 impl<R: Handle + Send + Sync + 'static> TestHost<R> {
-    /// A host with a desk for each user, and a seat for each worker. No worker serves yet.
+    /// Makes a host with a desk for each user, and a seat for each worker. No worker has a thread
+    /// yet.
     pub fn new(rt: R, way: &WorkerWay) -> Result<TestHost<R>, NoMemory> {
         let alloc = rt.alloc();
         let shared = shared_of(rt, way.event)?;
@@ -42,7 +43,8 @@ impl<R: Handle + Send + Sync + 'static> TestHost<R> {
         })
     }
 
-    /// Starts a worker at each seat, and adds what comes back for each line.
+    /// Starts a worker's thread at each seat, does what each line asks for, and adds its answer. If
+    /// `event` is a failure, board 0 fails at this call.
     pub fn play(
         &mut self,
         event: Event,
@@ -62,7 +64,7 @@ impl<R: Handle + Send + Sync + 'static> TestHost<R> {
         Ok(())
     }
 
-    /// Lets a board that is held go on, tells all workers to end, and joins those that do.
+    /// Releases a board that is held, tells all workers to end, and joins those that do.
     pub fn end(&mut self) {
         self.shared.hold.end(&self.shared.rt);
         self.shared.tell_to_end(true);
@@ -71,7 +73,7 @@ impl<R: Handle + Send + Sync + 'static> TestHost<R> {
         }
     }
 
-    /// What comes back for a line.
+    /// Does what a line asks for, and returns its answer.
     fn answer(&mut self, line: &str) -> io::Result<String> {
         let (word, rest) = line.split_once(' ').unwrap_or((line, ""));
         let (number, rest) = rest.split_once(' ').unwrap_or((rest, ""));
@@ -88,7 +90,8 @@ impl<R: Handle + Send + Sync + 'static> TestHost<R> {
         }
     }
 
-    /// What comes back for a line that names a user's desk.
+    /// Does what a line `user`, `start` or `join` asks for at the desk of the user of this number,
+    /// counted from 1. Returns the reply, `started`, or `no`.
     fn of_user(&mut self, word: &str, number: usize, line: &str) -> io::Result<String> {
         let rt = self.shared.rt;
         let Some(user) = self.users.get_mut(number.wrapping_sub(1)) else {
@@ -106,7 +109,8 @@ impl<R: Handle + Send + Sync + 'static> TestHost<R> {
         }
     }
 
-    /// What comes back for a line that asks what the gate was asked.
+    /// Returns the answer to a line `asked` or `apart`: the bands of this user that the gate was
+    /// asked for, or whether two users had different boards.
     fn of_gate(&self, word: &str, user: usize, rest: &str) -> io::Result<String> {
         let rt = self.shared.rt;
         let watch = self.shared.watch.lock(&rt);
@@ -117,7 +121,8 @@ impl<R: Handle + Send + Sync + 'static> TestHost<R> {
         text(rt.alloc(), yes_or_no(is_so))
     }
 
-    /// The bands left of a user's command, at the seat of a worker that has ended.
+    /// Returns the answer to a line `left`: how many bands are left of the user's command at the
+    /// seat of a worker that has ended.
     fn left(&mut self, board: usize, user: usize) -> io::Result<String> {
         let alloc = self.shared.rt.alloc();
         let Some(worker) = self.workers.get_mut(board) else {
@@ -132,7 +137,8 @@ impl<R: Handle + Send + Sync + 'static> TestHost<R> {
         }
     }
 
-    /// How often the board of a worker that has ended failed.
+    /// Returns the answer to a line `faults`: how often the board of a worker that has ended
+    /// failed.
     fn faults(&self, board: usize) -> io::Result<String> {
         let alloc = self.shared.rt.alloc();
         match self
@@ -145,7 +151,8 @@ impl<R: Handle + Send + Sync + 'static> TestHost<R> {
         }
     }
 
-    /// The words that come back for any other line.
+    /// Does what any other line asks for, and returns its answer. A line of no known word has the
+    /// answer `no`.
     fn of_all(&mut self, word: &str, number: usize) -> io::Result<&'static str> {
         let rt = self.shared.rt;
         match word {
@@ -163,7 +170,7 @@ impl<R: Handle + Send + Sync + 'static> TestHost<R> {
         }
     }
 
-    /// Waits for so many workers to run. Returns whether they do.
+    /// Waits until this many workers run. Returns false if that takes too long.
     fn are_running(&self, count: usize) -> bool {
         for _ in 0..LOOKS {
             if self
@@ -180,7 +187,8 @@ impl<R: Handle + Send + Sync + 'static> TestHost<R> {
         false
     }
 
-    /// Waits for the worker's end, and returns how it ended.
+    /// Waits for the end of the worker at this board. Returns `stopped` or `dead`, or `no` if there
+    /// is no such worker or it doesn't end.
     fn ended(&mut self, board: usize) -> &'static str {
         let Some(worker) = self.workers.get_mut(board) else {
             return "no";
@@ -192,7 +200,8 @@ impl<R: Handle + Send + Sync + 'static> TestHost<R> {
         }
     }
 
-    /// Starts a worker again at the seat, with a board that never fails.
+    /// Starts a thread again for the worker at this board, with a board that never fails. Returns
+    /// `started`, or `no` if it has one or there is no such worker.
     fn serve(&mut self, board: usize) -> io::Result<&'static str> {
         let Some(worker) = self.workers.get_mut(board) else {
             return Ok("no");
@@ -203,15 +212,17 @@ impl<R: Handle + Send + Sync + 'static> TestHost<R> {
     }
 }
 
+/// Returns `yes` for true and `no` for false.
 fn yes_or_no(is_so: bool) -> &'static str {
     if is_so { "yes" } else { "no" }
 }
 
+/// Returns a copy of a text.
 fn text(alloc: Global, words: &str) -> io::Result<String> {
     Ok(String::from_str(alloc, words)?)
 }
 
-/// All that the threads share.
+/// Makes the state that all threads share, for a way with this event.
 fn shared_of<R: Handle>(rt: R, event: Event) -> Result<Arc<Shared<R>>, NoMemory> {
     let cache = TableCache::new(rt.alloc(), CACHED)?;
     let once = match event {
@@ -222,7 +233,7 @@ fn shared_of<R: Handle>(rt: R, event: Event) -> Result<Arc<Shared<R>>, NoMemory>
     Ok(Arc::new(rt.alloc(), Shared::new(rt, cache, once, holds_bands))?)
 }
 
-/// Users at their desks, and seats at which nobody serves.
+/// Makes a user for each desk, and a worker for each seat. None has a thread yet.
 fn people_at(
     alloc: Global,
     desks: Vec<Desk>,
@@ -238,7 +249,7 @@ fn people_at(
     Ok((users, workers))
 }
 
-/// Seats at which nobody serves.
+/// Makes a worker for each seat. None has a thread yet.
 fn workers_at(alloc: Global, seats: Vec<BoardSeat>) -> Result<Vec<Worker>, AllocError>
     requires { AreIdle seats.items }
 {

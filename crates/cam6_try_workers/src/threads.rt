@@ -26,17 +26,19 @@ pub struct Flag {
 }
 
 impl Flag {
+    /// Makes a flag that isn't raised.
     pub fn new(alloc: Global) -> Result<Flag, AllocError> {
         let is_up = Arc::new(alloc, AtomicBool::new(false))?;
         Ok(Flag { is_up })
     }
 
-    /// The same flag, for another thread.
+    /// Returns a handle to the same flag, for another thread.
     pub fn shared(&self) -> Result<Flag, AllocError> {
         let is_up = Arc::try_clone(&self.is_up)?;
         Ok(Flag { is_up })
     }
 
+    /// Raises the flag.
     pub fn raise(&self) {
         self.is_up.store(true, Ordering::SeqCst);
     }
@@ -50,12 +52,12 @@ pub struct Thread<T: Drop> {
 }
 
 impl<T: Drop> Thread<T> {
-    /// Whether it has come to its end.
+    /// Returns whether the thread has come to its end.
     pub fn is_over(&self) -> bool {
         self.flag.is_up.load(Ordering::SeqCst)
     }
 
-    /// Waits for its end, for `LOOKS` looks at most. Returns whether it has come.
+    /// Waits for the thread's end, for `LOOKS` milliseconds at most. Returns whether it has come.
     pub fn ends<R: Clock>(&self, rt: &R) -> bool {
         for _ in 0..LOOKS {
             if self.is_over() {

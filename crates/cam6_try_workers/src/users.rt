@@ -29,6 +29,7 @@ pub struct User {
 }
 
 impl User {
+    /// Makes a user at a desk, without a thread.
     pub fn new(desk: Desk) -> User {
         User {
             desk: Some(desk),
@@ -36,9 +37,9 @@ impl User {
         }
     }
 
-    /// Starts a thread that goes off with the desk, to ask a line's command there. Returns whether
-    /// it did: not if a thread has the desk, or if the line is no command. It fails if there is no
-    /// memory for that, and then the desk may be gone.
+    /// Starts a thread that asks a line's command at the user's desk. Returns false, and starts
+    /// none, if a thread has the desk, or if the line is no command. Fails if memory runs out, and
+    /// then the desk may be lost.
     pub fn start<R: Handle + Send + Sync + 'static>(
         &mut self,
         rt: R,
@@ -60,8 +61,8 @@ impl User {
         Ok(true)
     }
 
-    /// Waits for the thread that asks, takes the desk back, and returns the text of the reply.
-    /// Returns `None` if there is no thread, or if it goes on for too long.
+    /// Waits for the user's thread to end, takes the desk back, and returns the text of the reply.
+    /// Returns `None` if there is no thread, or if it runs on for too long.
     pub fn join<R: Handle>(&mut self, rt: &R) -> io::Result<Option<String>> {
         if !self.is_back(rt) {
             return Ok(None);
@@ -76,7 +77,8 @@ impl User {
         }
     }
 
-    /// Whether there is a thread, and its end comes in time.
+    /// Waits for the user's thread to end. Returns false if there is none, or if it runs on for too
+    /// long.
     fn is_back<R: Handle>(&self, rt: &R) -> bool {
         match &self.thread {
             Some(thread) => thread.ends(rt),
@@ -85,7 +87,7 @@ impl User {
     }
 }
 
-/// The text of a reply. Without a reply it fails as if memory had run out.
+/// Returns the text of a reply. Without a reply it fails as if memory had run out.
 fn text_of(alloc: Global, reply: Option<&Reply>) -> io::Result<Option<String>> {
     match reply {
         Some(reply) => Ok(Some(reply_text(alloc, reply).map_err(|_| no_memory())?)),
@@ -93,7 +95,8 @@ fn text_of(alloc: Global, reply: Option<&Reply>) -> io::Result<Option<String>> {
     }
 }
 
-/// A thread that asks a command at the desk, if there is memory for it.
+/// Starts a thread that asks a command at the desk, and then raises the flag `raised`. Returns
+/// `None`, and loses the desk, if it can't be started.
 fn sent<R: Handle + Send + Sync + 'static>(
     rt: R,
     desk: Desk,
@@ -105,7 +108,8 @@ fn sent<R: Handle + Send + Sync + 'static>(
     Some(Thread { handle, flag })
 }
 
-/// Has a command done, unless the desk still waits for another one. Returns the desk with the reply.
+/// Asks a command at the desk, unless the desk still waits for another one. Then raises the flag,
+/// and returns the desk with the reply, if there is one.
 fn speak<R: Handle>(rt: &R, mut desk: Desk, command: Command, raised: &Flag) -> Spoken {
     let reply = if desk.is_waiting() {
         None

@@ -36,6 +36,7 @@ pub struct WorkerWay {
 }
 
 impl Way for WorkerWay {
+    /// Reads the words after `as` as `workers USERS BOARDS [EVENT]`. Any other words are an error.
     fn read(alloc: Global, words: &str) -> Result<WorkerWay, Unplayable> {
         let words = words.split(' ').collect::<Vec<&str>>(alloc)?;
         match words.as_slice() {
@@ -50,7 +51,8 @@ impl Way for WorkerWay {
 }
 
 impl WorkerWay {
-    /// What comes back for the lines, once for each call at which a board is to fail.
+    /// Plays the lines in this way. Returns what comes back, once for each call at which a board is
+    /// to fail.
     pub fn played<R: Handle + Send + Sync + 'static>(
         &self,
         rt: R,
@@ -67,7 +69,8 @@ impl WorkerWay {
         Ok(all)
     }
 
-    /// What comes back for the lines. A board that is to fail does so at this call.
+    /// Plays the lines once, at a new host. Returns what comes back. A board that is to fail does
+    /// so at this call.
     fn answers<R: Handle + Send + Sync + 'static>(
         &self,
         rt: R,
@@ -87,14 +90,14 @@ impl WorkerWay {
     }
 }
 
-/// The event that words say.
+/// Returns the event that words name. Other words are an error.
 fn event_of(words: &[&str]) -> Result<Event, Unplayable> {
     match words {
         [] => Ok(Event::Nothing),
         ["hold", "bands"] => Ok(Event::InBand),
-        ["hold", user, band] => at_gate(Turn::Go, user, band),
-        ["preempt", user, band] => at_gate(Turn::Preempt, user, band),
-        ["stop", user, band] => at_gate(Turn::Stop, user, band),
+        ["hold", user, band] => gate_event(Turn::Go, user, band),
+        ["preempt", user, band] => gate_event(Turn::Preempt, user, band),
+        ["stop", user, band] => gate_event(Turn::Stop, user, band),
         ["fails", first, last] => Ok(Event::Fails {
             first: first.parse().map_err(|_| Unplayable::Unread)?,
             last: last.parse().map_err(|_| Unplayable::Unread)?,
@@ -103,8 +106,9 @@ fn event_of(words: &[&str]) -> Result<Event, Unplayable> {
     }
 }
 
-/// What the gate does at a user's band, which is named by its number.
-fn at_gate(turn: Turn, user: &str, band: &str) -> Result<Event, Unplayable> {
+/// Returns the event that the gate answers `turn` once, at this band of this user. Fails if a word
+/// is no number from 0 to 255.
+fn gate_event(turn: Turn, user: &str, band: &str) -> Result<Event, Unplayable> {
     let user = user.parse().map_err(|_| Unplayable::Unread)?;
     let band = band.parse().map_err(|_| Unplayable::Unread)?;
     Ok(Event::AtGate(Once { turn, user, band }))

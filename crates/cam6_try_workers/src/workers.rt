@@ -22,8 +22,8 @@ pub struct IdleSeat {
 }
 
 impl IdleSeat {
-    /// Takes the user's command, and puts it back as it is. Returns the bands left of it, or `None`
-    /// if no command waits or if there is no such user.
+    /// Takes the user's command from the seat, and puts it back as it is. Returns how many bands
+    /// are left of it, or `None` if no command waits or if there is no such user.
     fn left(&mut self, user: usize) -> Option<u64> {
         if user == 0 || user > self.seat.users() {
             return None;
@@ -61,7 +61,7 @@ pub struct Worker {
 }
 
 impl Worker {
-    /// A seat at which nobody has served.
+    /// Makes a worker that has a seat and no thread yet.
     pub fn new(seat: BoardSeat) -> Worker
         requires { IsIdle seat }
     {
@@ -76,9 +76,9 @@ impl Worker {
         }
     }
 
-    /// Starts a thread that serves at the seat, with a board that fails at this call or never.
-    /// Returns whether it did: not if there is one that isn't joined. It fails if there is no memory
-    /// for that, and then the seat may be gone.
+    /// Starts a thread that serves at the worker's seat, with a board that fails at this call, or
+    /// never for `None`. Returns false, and starts none, if the worker has a thread that isn't
+    /// joined. Fails if memory runs out, and then the seat may be lost.
     pub fn serve<R: Handle + Send + Sync + 'static>(
         &mut self,
         shared: &Arc<Shared<R>>,
@@ -99,7 +99,7 @@ impl Worker {
         Ok(true)
     }
 
-    /// Whether it has a thread that has not come to its end.
+    /// Returns whether the worker has a thread that has not come to its end.
     pub fn is_running(&self) -> bool {
         match &self.thread {
             Some(thread) => !thread.is_over(),
@@ -107,7 +107,7 @@ impl Worker {
         }
     }
 
-    /// Waits for the end of a worker that runs, and returns what is left of it. Returns `None` if
+    /// Waits for the worker's thread to end, joins it, and returns how it ended. Returns `None` if
     /// there is no thread, or if it runs on for too long.
     pub fn join<R: Handle>(&mut self, rt: &R) -> Option<Ended> {
         if !self.is_over(rt) {
@@ -119,7 +119,8 @@ impl Worker {
         Some(ended)
     }
 
-    /// Whether there is a thread, and its end comes in time.
+    /// Waits for the worker's thread to end. Returns false if there is none, or if it runs on for
+    /// too long.
     fn is_over<R: Handle>(&self, rt: &R) -> bool {
         match &self.thread {
             Some(thread) => thread.ends(rt),
@@ -127,8 +128,8 @@ impl Worker {
         }
     }
 
-    /// The bands left of the user's command, which is taken at the seat and put back. Returns `None`
-    /// if the worker isn't joined, or if no command waits.
+    /// Returns how many bands are left of the user's command. Returns `None` if the worker isn't
+    /// joined, or if no command waits. The command is taken from the seat and put back.
     pub fn bands_left(&mut self, user: usize) -> Option<u64> {
         match &mut self.left {
             Some(left) => left.seat.left(user),
@@ -137,7 +138,7 @@ impl Worker {
     }
 }
 
-/// An empty board that fails at this call or never.
+/// Makes an empty board that fails at this call, or never for `None`.
 fn empty_board<R: Handle>(shared: &Arc<Shared<R>>, call: Option<u64>) -> io::Result<EmptyBoard<R>> {
     match TriedBoard::new(shared, call) {
         Ok(board) => Ok(EmptyBoard { board }),
@@ -145,7 +146,8 @@ fn empty_board<R: Handle>(shared: &Arc<Shared<R>>, call: Option<u64>) -> io::Res
     }
 }
 
-/// A thread that serves at the seat, if there is memory for it.
+/// Starts a thread that serves at the seat, and then raises the flag `raised`. Returns `None`, and
+/// loses the seat, if it can't be started.
 fn started<R: Handle + Send + Sync + 'static>(
     shared: Arc<Shared<R>>,
     seat: IdleSeat,
