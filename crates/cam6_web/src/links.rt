@@ -67,8 +67,8 @@ impl<'a, R: Clock> Link<'a, R> {
         })
     }
 
-    /// Returns whether the next request asks for a socket. Waits until enough of it has come to
-    /// tell. Returns false if the time is over before.
+    /// Returns whether the client's request begins as one for a socket. Waits until enough of it
+    /// has come to tell. Returns false if the time is over before.
     pub fn asks_for_socket(&self) -> bool {
         let mut begin = [0; SOCKET_BEGIN.len()];
         for _ in 0..LOOKS {

@@ -30,8 +30,7 @@ impl Model for Names {
 }
 
 impl Names {
-    /// Returns the two names under which this computer is reached at a port: `127.0.0.1` and
-    /// `localhost`.
+    /// Makes the names for a port: `127.0.0.1` and `localhost`, each with the port after it.
     pub fn new(alloc: Global, port: u16) -> Result<Names, AllocError>
         ensures { IfOk result (λ names. names ≡ named port []) }
     {
