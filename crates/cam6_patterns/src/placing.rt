@@ -69,9 +69,9 @@ impl ChosenPlanes {
     }
 }
 
-/// Writes the `set` command lines that put a pattern on a torus of this side, for each of its rows
-/// one for each plane. The pattern's own upper left corner is moved by `column` columns and `row`
-/// rows.
+/// Writes the `set` command lines that put a pattern on a torus of this side. Each of its rows has
+/// one line for each plane. The pattern's own upper left corner is moved by `column` columns and
+/// `row` rows.
 pub fn write_placed<W: Write>(
     writer: &mut W,
     side: Side,

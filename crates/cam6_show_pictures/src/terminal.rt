@@ -130,8 +130,8 @@ fn character_line(
     line.extend_from_slice(b"\x1b[0m\x1b[K\n")
 }
 
-/// Pushes the escape sequences for two colours, and the character that shows with them the pixels
-/// at column `i` of the rows 2k and 2k + 1.
+/// Pushes a character after the escape sequences for its two colours. They show the pixels at
+/// column `i` of the rows 2k and 2k + 1.
 fn push_character(
     line: &mut Vec<u8>,
     look: &Look,

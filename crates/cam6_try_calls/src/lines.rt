@@ -55,8 +55,8 @@ fn check_row(rt: &impl Abort, planes: &Planes, wiring: Wiring, grid: Grid, phase
     }
 }
 
-/// Checks that the lines of a row have the addresses of its cells: for each half, grid and phase,
-/// in the first two rows and the last two. Also checks what the corner cells see at their
+/// Checks that the lines of rows have the addresses of their cells, for each half, grid and phase.
+/// The rows are the first two and the last two. Also checks what the corner cells see at their
 /// diagonals.
 fn check_rows(rt: &impl Abort, planes: &Planes, hood: Hood, minor: Minor) {
     let last = planes.side().number() - 1;

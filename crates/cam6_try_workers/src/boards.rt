@@ -43,7 +43,8 @@ impl<R: Handle> Board for TriedBoard<R> {
         self.inner.faults()
     }
 
-    /// Returns how many rows the board's step has done, or `None` if it holds none.
+    /// Returns how many rows of the step under way are done: 0 at rest, and `None` on an empty
+    /// board.
     fn rows(&self) -> Option<u16> {
         self.inner.rows()
     }

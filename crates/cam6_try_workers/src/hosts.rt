@@ -109,8 +109,8 @@ impl<R: Handle + Send + Sync + 'static> TestHost<R> {
         }
     }
 
-    /// Returns the answer to a line `asked` or `apart`: the bands of this user that the gate was
-    /// asked for, or whether two users had different boards.
+    /// Returns the answer to a line `asked` or `apart`. That is the list of this user's bands for
+    /// which the gate was asked, or whether two users had different boards.
     fn of_gate(&self, word: &str, user: usize, rest: &str) -> io::Result<String> {
         let rt = self.shared.rt;
         let watch = self.shared.watch.lock(&rt);

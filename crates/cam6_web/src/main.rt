@@ -65,7 +65,7 @@ fn options_given<R: Env + AllocGlobal>(rt: &R) -> Result<Options, Refused> {
     options_of_web(rt.alloc(), words.as_slice())
 }
 
-/// Serves pages at a port of this machine.
+/// Serves pages at a port of the address 127.0.0.1. Returns the exit status.
 fn serve_over_network<
     R: Handle + Net<Listener = TcpListener, Stream = TcpStream> + Eprint + Send + Sync + 'static,
 >(rt: R, options: Options) -> ExitCode {

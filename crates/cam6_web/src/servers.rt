@@ -19,7 +19,7 @@ const PAUSE: u64 = 20;
 const QUIET: u32 = 3_000;
 
 /// Answers the connections of a listener. Closes it after as many as `options` say, and waits until
-/// all connections are over.
+/// all connections are over. Fails only before the first connection is accepted.
 ///
 /// Accepting fails if the system has no file left, for example. The server then tries again without
 /// end, and reports that on standard error once a minute.
