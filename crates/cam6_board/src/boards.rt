@@ -40,12 +40,13 @@ pub trait Board: Drop {
     fn faults(&self) -> u64
         ensures { result ≡ fault_count self.now };
 
-    /// The rows of the step under way that are done: 0 at rest, and `None` on an empty board.
+    /// Returns how many rows of the step under way are done, which is 0 at rest. Returns `None` if
+    /// the board is empty.
     fn rows(&self) -> Option<u16>
         ensures { result ≡ rows_held (held self.now) };
 
     /// Loads an empty board with a job, and with the tables of its cycle's uses. If the board
-    /// fails, the job is lost, and the board holds nothing.
+    /// fails, returns `BoardFault`: the job is lost, and the board holds nothing.
     fn load(&mut self, job: Job, tables: &Tables) -> Result<(), BoardFault>
         requires { held self.old ≡ empty }
         ensures count { fault_count self.old ≤ fault_count self.new }
@@ -55,8 +56,8 @@ pub trait Board: Drop {
         ensures spare { IfErr result (λ fault.
             fault.spare.planes.limit ≡ (planes_in job.image).limit) };
 
-    /// Does one band of the job, and returns how it ends. If the board fails, it holds nothing
-    /// after that.
+    /// Does one band of the job, and returns whether a step or the job ends with it. If the board
+    /// fails, returns `BoardFault`, and the board then holds nothing.
     fn band(&mut self) -> Result<BandEnd, BoardFault>
         requires { HasWork (held self.old) }
         ensures count { fault_count self.old ≤ fault_count self.new }
@@ -66,8 +67,8 @@ pub trait Board: Drop {
         ensures spare { IfErr result (λ fault.
             IsOfLimit (held self.old) fault.spare.planes.limit) };
 
-    /// Takes the job's image off the board, wherever the job has come to. If the board fails, the
-    /// image is lost. The board holds nothing after it in both cases.
+    /// Takes the job's image off the board and returns it, at rest or in the middle of a step. If
+    /// the board fails, the image is lost. The board holds nothing after it in both cases.
     fn unload(&mut self) -> Result<Image, BoardFault>
         requires { IsLoaded (held self.old) }
         ensures count { fault_count self.old ≤ fault_count self.new }

@@ -42,7 +42,7 @@ impl FlakyBoard {
     ghost use Rattle.cam6_board.specs.Held.{empty};
     ghost use Rattle.cam6_board.specs.Flaky.{is_due, later, faults_after};
 
-    /// An empty board that fails at these calls, counted from 1.
+    /// Makes an empty board that fails at these calls, counted from 1.
     pub fn new(alloc: Global, calls: Vec<u64>) -> Result<FlakyBoard, NoMemory>
         ensures load { IfOk result (λ board. board.load ≡ empty) }
         ensures due { IfOk result (λ board. board.due ≡ calls.items) }
@@ -58,7 +58,8 @@ impl FlakyBoard {
         })
     }
 
-    /// Returns whether the call that is being made is one of the list. Counts it, and its fault.
+    /// Counts the call that is being made. If the list has it, also counts a fault. Returns whether
+    /// the list has it.
     fn fails(&mut self) -> bool
         ensures fails { result ≡ is_due self.old.due }
         ensures due { self.new.due ≡ later self.old.due }
@@ -74,14 +75,14 @@ impl FlakyBoard {
     }
 }
 
-/// Whether a list has the next call. Calls are counted from the next one, which is 1.
+/// Whether the next call is in the list. The list counts calls from the next one, which is 1.
 fn is_due(due: &[u64]) -> bool
     ensures { result ≡ is_due due.now }
 {
     due.iter().any(|call| *call == 1)
 }
 
-/// Counts one more call: each number of the list falls by one, and 0 stays.
+/// Counts one call in the list: each of its numbers falls by one, and 0 stays 0.
 fn count_call(due: &mut Vec<u64>)
     ensures { due.new.items ≡ later due.old.items }
 {
@@ -101,10 +102,12 @@ impl Board for FlakyBoard {
 
     ghost fault_count = { λ board. board.faults };
 
+    /// Returns how often the board failed.
     fn faults(&self) -> u64 {
         self.faults
     }
 
+    /// Returns how many rows of the step under way are done, or `None` if the board is empty.
     fn rows(&self) -> Option<u16> {
         match &self.job {
             Some(job) => Some(job.image().rows_done()),
@@ -136,7 +139,8 @@ impl Board for FlakyBoard {
         Ok(())
     }
 
-    /// Does one band of the job, unless this call is one of the list.
+    /// Does one band of the job, and returns whether a step or the job ends with it. Fails if this
+    /// call is one of the list.
     fn band(&mut self) -> Result<BandEnd, BoardFault>
         requires { HasWork self.old.load }
         ensures fails { is_err result ≡ is_due self.old.due }

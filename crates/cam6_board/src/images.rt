@@ -49,7 +49,7 @@ impl Image {
         }
     }
 
-    /// The rows of the step that are done, whole bands of them: 0 at rest.
+    /// Returns how many rows of the step are done, a whole number of bands. It is 0 at rest.
     pub fn rows_done(&self) -> u16
         ensures rows { result ≡ rows_of self.now }
         ensures within { result < width (planes_in self.now) }
@@ -61,7 +61,7 @@ impl Image {
         }
     }
 
-    /// Whether it is at rest.
+    /// Whether the image is at rest.
     pub fn is_rest(&self) -> bool
         ensures { result ≡ is_rest self.now }
     {
@@ -71,7 +71,8 @@ impl Image {
         }
     }
 
-    /// Returns the image at rest, or the step under way. A step has to be spent.
+    /// Returns the image at rest, or `Err` with the step under way, which the caller has to finish
+    /// or abandon.
     pub fn into_rest(self) -> Result<AtRest, MidStep>
         ensures rest { IfOk result (λ rest. self ≡ Image.Rest rest) }
         ensures step { IfErr result (λ step. self ≡ Image.Mid step) }
@@ -82,8 +83,8 @@ impl Image {
         }
     }
 
-    /// Goes on by one band, or begins a step with it. The image is at rest after a step's last
-    /// band.
+    /// Does one band of the step under way. If the image is at rest, begins a step by these tables
+    /// first. The image is at rest after a step's last band.
     pub(crate) fn band(self, tables: &EntryTables, scratch: &mut Scratch) -> Image
         // From whatever planes the step began.
         ensures planes { let s = width (planes_in self) in (o : Cells) →
@@ -97,8 +98,8 @@ impl Image {
         }
     }
 
-    /// Goes on by one band in place, if it is in the middle of a step and the band isn't the step's
-    /// last. Returns whether it did. Otherwise nothing changes.
+    /// Does one band in place if the image is in the middle of a step, and the band isn't the
+    /// step's last. Returns whether it did the band. Otherwise nothing changes.
     pub(crate) fn go_on(&mut self, tables: &EntryTables, scratch: &mut Scratch) -> bool
         // From whatever planes the step began.
         ensures planes { IsTrue result → let s = width (planes_in self.old) in (o : Cells) →
@@ -116,7 +117,7 @@ impl Image {
         }
     }
 
-    /// Returns the step under way, or begins one.
+    /// Returns the step under way. If the image is at rest, begins a step by these tables.
     fn into_step(self, tables: &EntryTables) -> MidStep
         ensures partway { (o p : Cells) → IsOnTheWay o p self → Partway o p result }
         ensures done { result.done ≡ rows_of self }
@@ -128,7 +129,7 @@ impl Image {
         }
     }
 
-    /// Gives the image up, and returns its planes as spare.
+    /// Consumes the image, and returns its planes as spare.
     pub fn into_spare(self) -> Spare
         ensures { result.planes.limit ≡ (planes_in self).limit }
     {

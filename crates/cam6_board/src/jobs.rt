@@ -37,8 +37,8 @@ impl Job {
     ghost use Rattle.cam6_board.specs.Bands.{Moves};
     ghost use Rattle.cam6_board.specs.Jobs.{stored_job};
 
-    /// A job of so many steps along a cycle, from a position counted from 0. If the image is in the
-    /// middle of a step, that step is one of them.
+    /// Makes a job of so many steps along a cycle, from a position counted from 0. If the image is
+    /// in the middle of a step, that step is one of them.
     pub fn new(image: Image, cycle: Cycle, position: usize, direction: Direction, steps: u16) -> Job
         requires { position < length cycle }
         ensures { result ≡ stored_job image cycle position direction steps }
@@ -52,7 +52,7 @@ impl Job {
         }
     }
 
-    /// The image, wherever the job has come to.
+    /// Returns the image, at rest or in the middle of a step.
     pub fn image(&self) -> &Image
         ensures { result.now ≡ self.now.image }
     {
@@ -66,37 +66,39 @@ impl Job {
         &self.cycle
     }
 
-    /// The way along the cycle.
+    /// Returns whether the job runs steps or undoes them.
     pub fn direction(&self) -> Direction
         ensures { result ≡ self.now.direction }
     {
         self.direction
     }
 
-    /// Gives the image back, wherever the job has come to.
+    /// Returns the job's image, at rest or in the middle of a step.
     pub fn into_image(self) -> Image
         ensures { result ≡ self.image }
     {
         self.image.into_image()
     }
 
-    /// Returns the position in the cycle. The clause `within` gives the job's invariant.
+    /// Returns the position in the cycle, counted from 0.
     pub fn position(&self) -> usize
         ensures position { result ≡ self.now.position }
+        // The job's invariant.
         ensures within { result < length self.now.cycle }
     {
         self.position
     }
 
-    /// The steps that are still to be done. A step that is half done is one of them.
+    /// Returns how many steps are still to be done. A step that is half done is one of them.
     pub fn steps(&self) -> u16
         ensures { result ≡ self.now.steps }
     {
         self.steps
     }
 
-    /// Does one band, by tables that lie as the cycle needs them, with scratch that is lent for it.
-    /// If a step ends with it, moves the position on and counts the step.
+    /// Does one band of the current entry's step, by the tables of the cycle's uses. If the band
+    /// ends a step, moves the position on and counts the step. Returns whether a step or the job
+    /// ends.
     pub fn band(&mut self, tables: &[Table], scratch: &mut Scratch) -> BandEnd
         requires work { 0 < self.old.steps }
         requires room { max_tables ≤ length tables.now }
@@ -113,7 +115,8 @@ impl Job {
     }
 }
 
-/// Returns how a step ends, with so many steps still to be done.
+/// Returns the end of a step's last band: `LastEnd` if no steps are still to be done, else
+/// `StepEnd`.
 fn end_of(steps: u16) -> BandEnd
     ensures { result ≡ end_of steps }
 {

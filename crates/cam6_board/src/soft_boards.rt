@@ -22,7 +22,7 @@ impl SoftBoard {
     ghost use Rattle.cam6_board.specs.Held.{empty};
     ghost use Rattle.cam6_board.specs.Soft.{load_in};
 
-    /// An empty board.
+    /// Makes an empty board that never fails.
     pub fn new(alloc: Global) -> Result<SoftBoard, NoMemory>
         ensures { IfOk result (λ board. load_in board ≡ empty) }
     {
@@ -45,11 +45,12 @@ impl Board for SoftBoard {
 
     ghost fault_count = { λ board. 0 };
 
-    /// Always 0.
+    /// Returns 0: the board never fails.
     fn faults(&self) -> u64 {
         0
     }
 
+    /// Returns how many rows of the step under way are done, or `None` if the board is empty.
     fn rows(&self) -> Option<u16> {
         match &self.job {
             Some(job) => Some(job.image().rows_done()),
@@ -57,7 +58,7 @@ impl Board for SoftBoard {
         }
     }
 
-    /// Takes the job, and copies the tables. Never fails.
+    /// Loads an empty board with the job, and copies the tables. Never fails.
     fn load(&mut self, job: Job, tables: &Tables) -> Result<(), BoardFault>
         requires { load_in self.old ≡ empty }
         ensures never { IsOk result }
@@ -68,7 +69,7 @@ impl Board for SoftBoard {
         Ok(())
     }
 
-    /// Does one band of the job, by `Job::band`.
+    /// Does one band of the job, and returns whether a step or the job ends with it. Never fails.
     fn band(&mut self) -> Result<BandEnd, BoardFault>
         requires { HasWork (load_in self.old) }
         ensures never { IsOk result }
@@ -80,7 +81,7 @@ impl Board for SoftBoard {
         Ok(job.band(self.tables.as_slice(), &mut self.scratch))
     }
 
-    /// Takes the job's image off the board. Never fails.
+    /// Takes the job's image off the board and returns it. Never fails.
     fn unload(&mut self) -> Result<Image, BoardFault>
         requires { IsLoaded (load_in self.old) }
         ensures never { IsOk result }

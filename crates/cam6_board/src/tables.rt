@@ -28,7 +28,7 @@ impl Model for Tables {
 impl Tables {
     ghost use Rattle.std.specs.Prelude.{slice_set};
 
-    /// Allocates the tables. Nothing is said of their entries.
+    /// Allocates the tables. Their entries may be anything.
     pub fn blank(alloc: Global) -> Result<Tables, NoMemory> {
         let mut by_use = Vec::with_capacity(alloc, MAX_TABLES)?;
         for _use in 0..MAX_TABLES {
@@ -37,7 +37,7 @@ impl Tables {
         Ok(Tables { by_use })
     }
 
-    /// The tables, by use.
+    /// Returns all tables, in the order of their uses.
     pub fn as_slice(&self) -> &[Table]
         ensures tables { result.now ≡ self.now }
         ensures room { length result.now ≡ max_tables }
@@ -45,7 +45,7 @@ impl Tables {
         self.by_use.as_slice()
     }
 
-    /// Copies a table to the place of a use.
+    /// Copies a table's entries to the table of a use. `place` is the use's number, counted from 0.
     pub fn put(&mut self, place: usize, table: &Table)
         requires { place < max_tables }
         ensures { self.new ≡ slice_set self.old place table.now }
@@ -53,7 +53,7 @@ impl Tables {
         self.by_use[place].copy_from(table);
     }
 
-    /// Copies other tables, place by place.
+    /// Copies the entries of all tables from `other`.
     pub fn copy_from(&mut self, other: &Tables)
         ensures { self.new ≡ other.now }
     {

@@ -28,14 +28,14 @@ impl Model for Worked {
 }
 
 impl Worked {
-    /// Holds this image.
+    /// Makes it of an image.
     pub(crate) fn of(image: Image) -> Worked
         ensures { result ≡ image }
     {
         Worked { image: Some(image) }
     }
 
-    /// Gives the image back.
+    /// Returns the image.
     pub(crate) fn into_image(self) -> Image
         ensures { result ≡ self }
     {
@@ -45,7 +45,7 @@ impl Worked {
         }
     }
 
-    /// The image, which is there between bands.
+    /// Returns the image. Only `band` takes it out, and puts it back.
     pub(crate) fn image(&self) -> &Image
         ensures { result.now ≡ self.now }
     {
@@ -55,7 +55,8 @@ impl Worked {
         }
     }
 
-    /// Goes on by one band, or begins a step with it.
+    /// Does one band of the step under way. If the image is at rest, begins a step by these tables
+    /// first.
     pub(crate) fn band(&mut self, tables: &EntryTables, scratch: &mut Scratch)
         // From whatever planes the step began.
         ensures planes { let s = width (planes_in self.old) in (o : Cells) →

@@ -70,9 +70,10 @@ impl TableCache {
         })
     }
 
-    /// Returns how many tables are cached. Its clauses also give the invariant of a cache.
+    /// Returns how many tables are cached.
     pub fn len(&self) -> usize
         ensures number { result ≡ length self.now.tables }
+        // The rest is the invariant of a cache.
         ensures few { result ≤ self.now.capacity }
         ensures limit { result ≤ max_capacity }
         ensures least { 0 < self.now.capacity }
@@ -83,9 +84,9 @@ impl TableCache {
         self.tables.len()
     }
 
-    /// Makes `out` the key's true table, and returns whether it was cached. `code` is that of the
-    /// key's text. Allocates only for a table that is newly cached. If that fails, nothing is
-    /// cached, and nobody sees it.
+    /// Copies or fills the key's true table to `out`, and returns whether it was cached. `code` is
+    /// that of the key's text. Allocates only to cache a new table. If that fails, the table isn't
+    /// cached, and `out` is right all the same.
     pub fn load(&mut self, key: &Key, code: &Code, out: &mut Table) -> bool
         requires code { IsCodeFor key.now.wiring key.now.text code.now }
         requires reversible { key.now.inverted ≡ true → IsReversibleKey key.now }
@@ -109,7 +110,7 @@ impl TableCache {
         false
     }
 
-    /// Drops the table that was used longest ago, and returns whether there was one.
+    /// Drops the table that was used longest ago. Returns false if the cache was empty.
     pub fn evict_oldest(&mut self) -> bool
         ensures some { result ≡ not (is_empty self.old.tables) }
         ensures rest { self.new ≡ without_last self.old }
@@ -118,8 +119,8 @@ impl TableCache {
     }
 }
 
-/// Fills `out` with the key's true table, by `fill_by`. That refuses nothing here, since what is to
-/// be undone can be.
+/// Fills `out` with the key's true table, by `fill_by`. Never fails, since the caller has made sure
+/// that an inverted key's rule can be undone. `straight` is scratch.
 fn fill_true(key: &NamedKey, code: &Code, straight: &mut Table, out: &mut Table)
     requires code { IsCodeFor (key_of key.now).wiring (key_of key.now).text code.now }
     requires reversible { key.now.inverted ≡ true → IsReversibleKey (key_of key.now) }
@@ -131,8 +132,8 @@ fn fill_true(key: &NamedKey, code: &Code, straight: &mut Table, out: &mut Table)
     }
 }
 
-/// Keeps a copy of a table that wasn't cached, if there is memory. The table that was used longest
-/// ago leaves a full cache.
+/// Caches a copy of a table that wasn't cached. If the cache is full, drops the table that was used
+/// longest ago. If an allocation fails, caches nothing.
 fn keep(alloc: Global, tables: &mut LruCache<NamedKey, Table>, key: &NamedKey, table: &Table)
     requires absent { is_cached (key_of key.now) (tables_of tables.old.entries) ≡ false }
     ensures { (cached_of tables.new ≡ with_first (key_of key.now) table.now (cached_of tables.old))

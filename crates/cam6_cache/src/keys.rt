@@ -26,7 +26,7 @@ impl NamedKey {
     ghost use Rattle.cam6_cache.specs.Keys.{way_of};
     ghost use Rattle.cam6_cache.specs.Internal.Entries.{key_of};
 
-    /// The half, hood and minor that the key's rule is written for.
+    /// Returns the half, hood and minor that the key's rule is written for.
     pub(crate) fn wiring(&self) -> Wiring
         ensures { result ≡ (key_of self.now).wiring }
     {
@@ -37,7 +37,7 @@ impl NamedKey {
         }
     }
 
-    /// The way along a cycle that uses the key's table.
+    /// Returns the direction of the steps that use the key's table: backward if it is inverted.
     pub(crate) fn way(&self) -> Direction
         ensures { result ≡ way_of self.now.inverted }
     {
@@ -90,7 +90,7 @@ impl Key {
     ghost use Rattle.cam6_cache.specs.Limits.{max_text};
     ghost use Rattle.cam6_cache.specs.Internal.Entries.{key_of};
 
-    /// A key of the empty text, with room for any text of at most `MAX_TEXT` bytes.
+    /// Makes a key of the empty text. It has room for any text of at most `MAX_TEXT` bytes.
     pub fn scratch(alloc: Global) -> Result<Key, NoMemory>
         ensures key { IfOk result (λ key. key.text ≡ []) }
         // The constant is the limit that contracts speak of.
@@ -106,7 +106,8 @@ impl Key {
         Ok(Key { named })
     }
 
-    /// Makes the key that of a text, at most `MAX_TEXT` bytes long. Does not allocate.
+    /// Makes this the key of a text, of at most `MAX_TEXT` bytes. `inverted` is for the table that
+    /// undoes the rule. Does not allocate.
     pub fn set(&mut self, half: Half, hood: Hood, minor: Minor, text: &str, inverted: bool)
         requires { length text.now ≤ max_text }
         ensures { self.new ≡ record {
@@ -124,7 +125,7 @@ impl Key {
         named.inverted = inverted;
     }
 
-    /// The key as a cache looks it up.
+    /// Returns the key as a cache looks it up.
     pub(crate) fn named(&self) -> &NamedKey
         ensures { key_of result.now ≡ self.now }
     {

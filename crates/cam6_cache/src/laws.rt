@@ -1,12 +1,12 @@
 //! Laws of keys and their tables. Each is the contract of a function that does nothing.
 ghost use Rattle.cam6_cache.specs.Laws.{KeysAreThemselves, IsTheOnlyTable, TableMakesReversible};
 
-/// A key is the same as itself, and as no other.
+/// A key equals itself, and no other key.
 pub fn keys_are_themselves()
     ensures law { KeysAreThemselves }
 {}
 
-/// A key has one true table.
+/// Two true tables of one key have the same entries.
 pub fn a_key_has_one_true_table()
     ensures law { IsTheOnlyTable }
 {}

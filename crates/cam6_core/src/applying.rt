@@ -12,7 +12,8 @@ use cam6_slot::laws::places_have_the_side;
 use cam6_station::{Banded, User};
 
 impl Core {
-    /// Does an event, or refuses it. Allocates only for an ask and for newly cached tables.
+    /// Does an event, and returns its outcome. If the event is refused, does nothing and returns
+    /// the reason. Allocates only for an ask and for newly cached tables.
     pub fn apply(&mut self, event: Event) -> Outcome
         ensures goes { Goes self.old event result self.new }
         ensures loads { LoadsTables event result self.old self.new }
@@ -70,8 +71,8 @@ impl Core {
         }
     }
 
-    /// Puts a user's command on an idle board, with its tables filled. Returns how many bands are
-    /// left.
+    /// Puts a user's command on an idle board, after its tables are filled. Returns how many bands
+    /// are left.
     fn lease(&mut self, user: User, board: u64) -> Outcome
         requires board { is_idle ((standing self.old).board board) ≡ true }
         requires user { is_queued ((standing self.old).user user) ≡ true }
@@ -89,14 +90,14 @@ impl Core {
         Outcome::Leased(left)
     }
 
-    /// Does one band on a board, and returns how many are left. After the last one the reply waits
-    /// to be collected, and the board is idle.
+    /// Does one band on a board, and returns how many bands of its command are left. After the last
+    /// one the reply waits to be collected, and the board is idle.
     fn band(&mut self, board: u64) -> Outcome
         requires { is_loaded ((standing self.old).board board) ≡ true }
         ensures takes { Takes self.old (event.Band board) result self.new }
         ensures others { Spares (event.Band board) self.old self.new }
     {
-        match self.band_on(board) {
+        match self.run_band(board) {
             Banded::More(left) => Outcome::Banded(left),
             Banded::Last(user, finished) => {
                 self.set_user(user, Whereabouts::Finished(finished));
@@ -106,29 +107,29 @@ impl Core {
         }
     }
 
-    /// Takes the command off a board, which is idle then. The command waits again. Returns how many
-    /// bands are left.
+    /// Takes the command off a board, which is idle then. The command waits for a board again.
+    /// Returns how many bands are left.
     fn preempt(&mut self, board: u64) -> Outcome
         requires { is_loaded ((standing self.old).board board) ≡ true }
         ensures takes { Takes self.old (event.Preempt board) result self.new }
         ensures others { Spares (event.Preempt board) self.old self.new }
     {
         places_have_the_side();
-        let (user, queued) = self.preempt_on(board);
+        let (user, queued) = self.preempt_board(board);
         let left = queued.left();
         self.set_user(user, Whereabouts::Queued(queued));
         Outcome::Preempted(left)
     }
 
-    /// Fails a board. The command that it held begins again from its home. Returns how many bands
-    /// are left then, or no number if the board held nothing.
+    /// Makes a board fail. The command that it held waits again, from its image at home. Returns
+    /// how many bands are left then, or no number if the board held nothing.
     fn fail(&mut self, board: u64) -> Outcome
         requires there { is_missing ((standing self.old).board board) ≡ false }
         requires alive { is_dead ((standing self.old).board board) ≡ false }
         ensures takes { Takes self.old (event.Fail board) result self.new }
         ensures others { Spares (event.Fail board) self.old self.new }
     {
-        let Some(back) = self.fail_on(board) else {
+        let Some(back) = self.fail_board(board) else {
             return Outcome::Failed(None);
         };
         let (user, queued) = back;
@@ -143,11 +144,11 @@ impl Core {
         ensures takes { Takes self.old (event.Repair board) result self.new }
         ensures others { Spares (event.Repair board) self.old self.new }
     {
-        self.repair_on(board);
+        self.repair_board(board);
         Outcome::Repaired
     }
 
-    /// Drops the table that was used longest ago.
+    /// Drops the cached table that was used longest ago.
     fn evict(&mut self) -> Outcome
         ensures takes { Takes self.old event.Evict result self.new }
         ensures others { Spares event.Evict self.old self.new }
@@ -158,7 +159,7 @@ impl Core {
         Outcome::Evicted
     }
 
-    /// Returns a user's reply. Their machine has no command then.
+    /// Returns a user's reply. Their machine has no command after it.
     fn collect(&mut self, user: User) -> Outcome
         requires { is_finished ((standing self.old).user user) ≡ true }
         ensures takes { Takes self.old (event.Collect user) result self.new }

@@ -2,13 +2,15 @@
 ghost use Rattle.cam6_core.specs.Headline.{RepliesAreOfCommands};
 ghost use Rattle.cam6_core.specs.Laws.{GoingThroughIsEnough};
 
-/// Events that go one after another have the headline, and their outcomes are the model's.
-pub fn events_one_after_another_have_the_headline()
+/// If the core was new, events one after another give each user their private machine's replies.
+/// The user gets no reply to the last command while it is under way. The outcomes are those of each
+/// model of a core that agreed with the core before.
+pub fn events_in_turn_give_the_private_replies()
     ensures law { GoingThroughIsEnough }
 {}
 
-/// Two lists of events that agree on a user's accepted commands give this user equal replies, as
-/// far as both have replied.
+/// If two lists of events agree on a user's accepted commands, they give this user equal replies,
+/// as far as both have replied.
 pub fn replies_depend_on_commands_alone()
     ensures law { RepliesAreOfCommands }
 {}

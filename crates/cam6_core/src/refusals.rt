@@ -29,7 +29,7 @@ impl Core {
 }
 
 impl Core {
-    /// Why an ask is refused, whatever it asks.
+    /// Returns why an ask is refused, whatever its command. Returns `None` if it isn't refused.
     fn ask_refusal(&self, user: u64) -> Option<Refused>
         // Whatever is asked.
         ensures { (c : Command) → result ≡ refusal (standing self.now) (event.Ask user c) }
@@ -43,8 +43,8 @@ impl Core {
         None
     }
 
-    /// Why a lease is refused, if it is: first for the numbers, then for the board, then for the
-    /// user.
+    /// Returns why a lease is refused, or `None` if it isn't. It checks the user's and the board's
+    /// number first, then the board, then the user.
     fn lease_refusal(&self, user: u64, board: u64) -> Option<Refused>
         ensures { result ≡ refusal (standing self.now) (event.Lease user board) }
     {
@@ -63,7 +63,8 @@ impl Core {
         None
     }
 
-    /// Returns why an event that needs a loaded board is refused, if it is.
+    /// Returns why an event is refused that needs a board with a command: a band or a preempt.
+    /// Returns `None` if the board has one.
     fn loaded_refusal(&self, board: u64) -> Option<Refused>
         ensures { result ≡ loaded_refusal ((standing self.now).board board) }
     {
@@ -79,7 +80,8 @@ impl Core {
         None
     }
 
-    /// Why a failure is refused, if it is: there is no such board, or it has failed already.
+    /// Returns why the failure of a board is refused: there is no such board, or it has failed
+    /// already. Returns `None` if it isn't refused.
     fn fail_refusal(&self, board: u64) -> Option<Refused>
         ensures { result ≡ refusal (standing self.now) (event.Fail board) }
     {
@@ -92,7 +94,8 @@ impl Core {
         None
     }
 
-    /// Why a repair is refused, if it is: there is no such board, or it has not failed.
+    /// Returns why a repair is refused: there is no such board, or it has not failed. Returns
+    /// `None` if it isn't refused.
     fn repair_refusal(&self, board: u64) -> Option<Refused>
         ensures { result ≡ refusal (standing self.now) (event.Repair board) }
     {
@@ -105,7 +108,8 @@ impl Core {
         None
     }
 
-    /// Why an eviction is refused, if it is: the cache holds no table.
+    /// Returns why an eviction is refused: the cache holds no table. Returns `None` if it isn't
+    /// refused.
     fn evict_refusal(&self) -> Option<Refused>
         ensures { result ≡ refusal (standing self.now) event.Evict }
     {
@@ -115,8 +119,8 @@ impl Core {
         None
     }
 
-    /// Why it is refused to collect a reply, if it is: there is no such user, or none waits for
-    /// them.
+    /// Returns why a collect is refused: there is no such user, or no reply waits for them. Returns
+    /// `None` if it isn't refused.
     fn collect_refusal(&self, user: u64) -> Option<Refused>
         ensures { result ≡ refusal (standing self.now) (event.Collect user) }
     {

@@ -29,7 +29,7 @@ impl Model for SoftStation {
 }
 
 impl SoftStation {
-    /// An idle station.
+    /// Makes an idle station, whose board never fails.
     pub(crate) fn new(alloc: Global) -> Result<SoftStation, NoMemory>
         ensures { IfOk result (λ station. station ≡ idle) }
     {
@@ -46,7 +46,7 @@ impl SoftStation {
         self.station.is_idle()
     }
 
-    /// Whether the board holds the job of a user's lease.
+    /// Whether the board holds the job of a user's command.
     pub(crate) fn is_loaded(&self) -> bool
         ensures { result ≡ is_loaded self.now }
     {
@@ -60,7 +60,7 @@ impl SoftStation {
         self.station.is_dead()
     }
 
-    /// Loads an idle station with the lease of a user.
+    /// Loads an idle station with the lease of a user, its job and its tables. Never fails.
     pub(crate) fn load(&mut self, user: User, lease: Lease, job: Job, tables: &Tables)
         requires idle { self.old ≡ idle }
         requires job { JobFits lease job }
@@ -78,8 +78,8 @@ impl SoftStation {
         }
     }
 
-    /// Does one band on the board, and counts it in the lease. After the last one the command is
-    /// finished, and the board is idle.
+    /// Does one band on the board, and counts it in the lease. After the command's last band,
+    /// returns the finished command, and the board is idle.
     pub(crate) fn band(&mut self) -> Banded
         requires { IsLoaded self.old }
         ensures gives { BandGives self.old result self.new }
@@ -91,7 +91,7 @@ impl SoftStation {
         banded
     }
 
-    /// Takes the command off the board, which is idle after that. Returns its user and the command.
+    /// Takes the command off the board, which is idle after that. Returns the user and the command.
     pub(crate) fn preempt(&mut self) -> (User, Queued)
         requires { IsLoaded self.old }
         ensures back { PreemptGives self.old (Preempted.Back result.0 result.1) idle }
@@ -106,8 +106,8 @@ impl SoftStation {
         }
     }
 
-    /// Makes the board fail, so that it is dead and loses what it holds. Returns the command that
-    /// it held with its user, or `None`. The command waits again with what is at its home.
+    /// Makes the board fail: it is dead, and loses what it holds. Returns the user and the command
+    /// that it held, or `None`. The command waits again from its image at home.
     pub(crate) fn fail(&mut self) -> Option<(User, Queued)>
         requires { IsAlive self.old }
         ensures back { FailGives self.old result }

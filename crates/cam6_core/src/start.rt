@@ -18,8 +18,8 @@ use cam6_station::Filling;
 use std::alloc::Global;
 
 impl Core {
-    /// A core of so many users and idle boards, with an empty cache for `cache` tables. Each user
-    /// has a blank machine, with the limit at its row of `limits`.
+    /// Makes a core of so many users and idle boards, with an empty cache for `cache` tables. Each
+    /// user has a blank machine. Its limit is at the user's row of `limits`.
     pub fn new(
         alloc: Global,
         users: usize,
@@ -52,7 +52,8 @@ impl Core {
     }
 }
 
-/// So many users at rest, each with a blank machine that has the limit at its row of `limits`.
+/// Returns the whereabouts of so many users. Each has a blank machine and no command. The machine's
+/// limit is at the user's row of `limits`.
 fn newcomers(alloc: Global, users: usize, limits: &[Side]) -> Result<Vec<Whereabouts>, NoMemory>
     requires { length limits.now ≡ users }
     ensures { IfOk result (λ made. AreNewcomers limits.now made.items) }
@@ -65,7 +66,7 @@ fn newcomers(alloc: Global, users: usize, limits: &[Side]) -> Result<Vec<Whereab
     Ok(made)
 }
 
-/// So many idle boards.
+/// Makes so many idle stations, one for each board.
 fn idle_boards(alloc: Global, boards: usize) -> Result<Vec<SoftStation>, NoMemory>
     ensures { IfOk result (λ made. made.items ≡ replicate boards idle) }
 {

@@ -18,7 +18,7 @@ use cam6_station::{Banded, Preempted, User};
 use std::mem;
 
 impl Core {
-    /// Returns the user with a number that was looked at. There are at most 32 users.
+    /// Returns the user with this number, who has to exist. There are at most 32 users.
     pub(crate) fn user_of(&self, number: u64) -> User
         requires { is_missing ((standing self.now).user number) ≡ false }
         ensures { result ≡ number }
@@ -27,7 +27,7 @@ impl Core {
         User::numbered(number as usize)
     }
 
-    /// Takes a user's whereabouts, and leaves `Out` in their place.
+    /// Returns a user's whereabouts, and leaves `Out` in their place.
     pub(crate) fn take_user(&mut self, user: User) -> Whereabouts
         requires { IsNumber (length self.old.users) user }
         ensures was { at_number self.old.users user ≡ Some result }
@@ -45,7 +45,8 @@ impl Core {
         drop(mem::replace(&mut self.users[user.row()], whereabouts));
     }
 
-    /// Returns the number of an idle board as a lease keeps it. There are at most 8 boards.
+    /// Returns the number of an idle board as a byte, as a lease has it. There are at most 8
+    /// boards.
     pub(crate) fn board_number(&self, board: u64) -> u8
         requires { slice_get self.now.boards board ≡ Some idle }
         ensures { result ≡ board }
@@ -54,7 +55,7 @@ impl Core {
         board as u8
     }
 
-    /// Fills the tables of a user's lease, and then loads an idle board with it.
+    /// Fills the tables of a user's lease, and then loads an idle board with the lease and its job.
     pub(crate) fn load(&mut self, board: u64, user: User, lease: Lease, job: Job)
         requires user { IsNumber (length self.old.users) user }
         requires board { slice_get self.old.boards board ≡ Some idle }
@@ -76,8 +77,9 @@ impl Core {
         station.load(user, lease, job, self.filling.tables());
     }
 
-    /// Does one band on a board that holds a command. Returns what the band comes to.
-    pub(crate) fn band_on(&mut self, board: u64) -> Banded
+    /// Does one band on a board that holds a command. Returns how many bands are left, or the
+    /// finished command with its user.
+    pub(crate) fn run_band(&mut self, board: u64) -> Banded
         requires { IsLoaded (board_of self.old board) }
         ensures gives { BandGives (board_of self.old board) result (board_of self.new board) }
         ensures never { is_lost result ≡ false }
@@ -87,8 +89,8 @@ impl Core {
         self.boards[board as usize].band()
     }
 
-    /// Takes the command off a board, and returns it with its user.
-    pub(crate) fn preempt_on(&mut self, board: u64) -> (User, Queued)
+    /// Takes the command off a board, and returns its user and the command.
+    pub(crate) fn preempt_board(&mut self, board: u64) -> (User, Queued)
         requires { IsLoaded (board_of self.old board) }
         ensures back { PreemptGives (board_of self.old board)
             (Preempted.Back result.0 result.1) idle }
@@ -98,8 +100,9 @@ impl Core {
         self.boards[board as usize].preempt()
     }
 
-    /// Fails a board, and returns the command that it held, if any, with its user.
-    pub(crate) fn fail_on(&mut self, board: u64) -> Option<(User, Queued)>
+    /// Makes a board fail. Returns the user and the command that it held, or `None` if it held
+    /// none.
+    pub(crate) fn fail_board(&mut self, board: u64) -> Option<(User, Queued)>
         requires { IsAlive (board_of self.old board) }
         ensures back { FailGives (board_of self.old board) result }
         ensures dead { self.new ≡ with_board self.old board dead }
@@ -108,8 +111,8 @@ impl Core {
         self.boards[board as usize].fail()
     }
 
-    /// Makes a dead board idle.
-    pub(crate) fn repair_on(&mut self, board: u64)
+    /// Makes a board idle that has failed.
+    pub(crate) fn repair_board(&mut self, board: u64)
         requires { slice_get self.old.boards board ≡ Some dead }
         ensures { self.new ≡ with_board self.old board idle }
     {

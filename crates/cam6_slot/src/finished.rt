@@ -22,7 +22,7 @@ impl Model for Finished {
 }
 
 impl Finished {
-    /// A machine after its command, with the reply for its user.
+    /// Makes it of a machine after its command, and the reply for its user.
     pub(crate) fn new(machine: Machine, reply: Reply) -> Finished
         ensures machine { result.machine ≡ machine }
         ensures reply { result.told ≡ reply }
@@ -30,7 +30,7 @@ impl Finished {
         Finished { machine, reply }
     }
 
-    /// Returns the machine, which rests again, and the reply for its user.
+    /// Returns the machine, which has no command now, and the reply for its user.
     pub fn collect(self) -> (Resting, Reply)
         ensures machine { result.0 ≡ self.machine }
         ensures reply { result.1 ≡ self.told }

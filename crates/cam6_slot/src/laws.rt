@@ -1,12 +1,12 @@
 //! What follows of places. Each law is the contract of a function that does nothing.
 ghost use Rattle.cam6_slot.specs.Laws.{NeededTablesFit, PlacesHaveTheSide};
 
-/// Tables that are those needed, one by one, fit the lease.
+/// Tables fit a lease if each of them is the table that the lease needs for its use.
 pub fn needed_tables_fit()
     ensures law { NeededTablesFit }
 {}
 
-/// A place has the side of the machine for which it stands.
+/// If a place stands for a machine, it has the machine's side.
 pub fn places_have_the_side()
     ensures law { PlacesHaveTheSide }
 {}

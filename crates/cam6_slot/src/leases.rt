@@ -49,8 +49,8 @@ impl Lease {
     ghost use Rattle.cam6_slot.specs.Stands.{Stands, StandsOut};
     ghost use Rattle.cam6_block.specs.RuleTables.{IsTableBy};
 
-    /// The lease of steps that a board does. Of the step under way `rows` are done: whole bands,
-    /// fewer than all.
+    /// Makes the lease of steps that a board does. `rows` of the step under way are done: whole
+    /// bands, and fewer than all.
     pub(crate) fn new(work: Work, rows: u16, board: u8) -> Lease
         requires rows { rows < width work.home }
         requires bands { rows % band ≡ 0 }
@@ -61,7 +61,7 @@ impl Lease {
         Lease { work, rows, board }
     }
 
-    /// The number of the board, counted from 0.
+    /// Returns the number of the board, counted from 0.
     pub fn board(&self) -> u8
         ensures { result ≡ self.now.board }
     {
@@ -69,9 +69,10 @@ impl Lease {
     }
 
     /// Returns how many bands are still to be done. If there are some, the job has steps left. If
-    /// there are none, its image is at rest. The clause `always` gives the lease's invariant.
+    /// there are none, its image is at rest.
     pub fn left(&self) -> u64
         ensures left { result ≡ lease_left self.now }
+        // The invariant of a lease.
         ensures always { IsLease self.now }
         ensures work { (job : StoredJob) → JobFits self.now job → 0 < result → 0 < job.steps }
         ensures rest { (job : StoredJob) → JobFits self.now job → result ≡ 0 →
@@ -80,7 +81,8 @@ impl Lease {
         self.work.left(self.rows)
     }
 
-    /// Counts one band that was done on the board. The lease knows its row without `end`.
+    /// Counts one band that was done on the board, and returns the lease. It finds out by itself
+    /// whether the band ends a step, and doesn't look at `end`.
     pub fn band(mut self, end: BandEnd) -> Lease
         requires { 0 < lease_left self }
         // For whatever machine and command, and whatever end the board reported.
@@ -100,8 +102,8 @@ impl Lease {
         self
     }
 
-    /// Counts one band that was done on the board, as `band` does, but in place: a lease takes more
-    /// than a kilobyte.
+    /// Counts one band that was done on the board. Does so in place, since a lease takes more than
+    /// a kilobyte. It finds out by itself whether the band ends a step, and doesn't look at `_end`.
     pub fn advance(&mut self, _end: BandEnd)
         requires { 0 < lease_left self.old }
         // For whatever machine and command, and whatever end the board reported.
@@ -127,8 +129,8 @@ impl Lease {
         self.rows = 0;
     }
 
-    /// Takes the command off the board, with bands left to do. After a whole step the image becomes
-    /// the one at home. A half-done step is parked.
+    /// Makes the command wait for a board again. `image` is what was taken off the board, with
+    /// bands left to do. An image at rest becomes the one at home. A half-done step is parked.
     pub fn preempt(self, image: Image) -> Queued
         requires left { 0 < lease_left self }
         requires image { ImageFits self.work self.rows image }
@@ -149,9 +151,8 @@ impl Lease {
         }
     }
 
-    /// Takes the command off a board that has lost the image, at whatever band. The command waits
-    /// again, and all that isn't at home is to be done again. The spare planes replace the lost
-    /// ones.
+    /// Makes the command wait for a board again, after the board has lost the image. All steps that
+    /// the image at home doesn't have are to be done again. The spare planes replace the lost ones.
     pub fn lost(self, spare: Spare) -> Queued
         requires { spare.planes.limit ≡ self.work.home.limit }
         // For whatever machine and command.
@@ -165,8 +166,8 @@ impl Lease {
         Queued::new(work, Parked::Spare(spare))
     }
 
-    /// Finishes the command: the machine with this image, and the reply for its user. All bands are
-    /// done, and the image is off the board.
+    /// Finishes the command. Returns the machine with this image, and the reply for its user. All
+    /// bands are done, and `image` was taken off the board.
     pub fn finish(self, image: AtRest) -> Finished
         requires left { lease_left self ≡ 0 }
         requires limit { image.planes.limit ≡ self.work.home.limit }
@@ -178,7 +179,7 @@ impl Lease {
         self.work.finish(image)
     }
 
-    /// How many tables the job needs: one for each use of a rule in the cycle.
+    /// Returns how many tables the job needs: one for each use of a rule in the cycle.
     pub fn needs(&self) -> u8
         ensures needs { result ≡ needs_of self.now.work }
         ensures few { result ≤ max_tables }
@@ -186,8 +187,8 @@ impl Lease {
         self.work.needs()
     }
 
-    /// What is needed for a table, by its number from 0 to below `needs`. The order is entry by
-    /// entry, half A's before half B's.
+    /// Returns of which rule a table is, and whether it undoes the rule. `index` is the table's
+    /// number, from 0 to below `needs`. The tables go entry by entry, half A's before half B's.
     pub fn need(&self, index: u8) -> Need<'_>
         requires { index < needs_of self.now.work }
         ensures need { IsNeed self.now.work index result }

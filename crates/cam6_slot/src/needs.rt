@@ -21,7 +21,8 @@ pub struct Need<'a> {
     pub inverted: bool,
 }
 
-/// What is needed for the table of a use.
+/// Returns of which rule the table of a use is, and whether it undoes the rule. `index` is the
+/// use's number, counted from 0.
 pub(crate) fn need_at(work: &Work, index: u8) -> Need<'_>
     requires { index < needs_of work.now }
     ensures need { IsNeed work.now index result }
@@ -45,7 +46,8 @@ pub(crate) fn need_at(work: &Work, index: u8) -> Need<'_>
     }
 }
 
-/// The table of a use.
+/// Returns what the machine's cycle has on the table of a use: its half, its rule and its
+/// direction.
 fn needed_at(work: &Work, index: u8) -> NeededTable
     requires { index < needs_of work.now }
     ensures { slice_get (needed work.now) index ≡ Some result }
@@ -53,7 +55,7 @@ fn needed_at(work: &Work, index: u8) -> NeededTable
     work.cycle().tables_needed(work.direction())[usize::from(index)]
 }
 
-/// Whether the tables of this way are to undo their rules.
+/// Whether steps in this direction use tables that undo their rules: backward steps do.
 fn is_inverted(direction: Direction) -> bool
     ensures { way_told result ≡ direction }
 {

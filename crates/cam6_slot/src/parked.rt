@@ -35,7 +35,8 @@ impl Parked {
         }
     }
 
-    /// Returns the parked step, or else the spare planes with a copy of the image at home.
+    /// Returns the parked step. If no step is parked, copies the image at home into the spare
+    /// planes and returns it at rest.
     pub(crate) fn into_image(self, home: &AtRest) -> Image
         requires { HasRoomFor home.now.planes self }
         ensures { LeavesAs home.now.planes self result }

@@ -33,8 +33,8 @@ impl Queued {
     ghost use Rattle.cam6_slot.specs.Parking.{IsBeside, IsQueued};
     ghost use Rattle.cam6_slot.specs.Stands.{Stands, StandsOut};
 
-    /// A command that waits for a board, with one step left at least, and its image that isn't at
-    /// home.
+    /// Makes a command that waits for a board. At least one step is left. `parked` is its image
+    /// that isn't at home.
     pub(crate) fn new(work: Work, parked: Parked) -> Queued
         requires some { work.reached.steps < work.total }
         requires parked { IsBeside work parked }
@@ -46,18 +46,18 @@ impl Queued {
         Queued { work, parked }
     }
 
-    /// Returns how many bands are still to be done, one at least. The clause `always` gives the
-    /// invariant of a command that waits.
+    /// Returns how many bands are still to be done, one at least.
     pub fn left(&self) -> u64
         ensures left { result ≡ queued_left self.now }
         ensures some { 0 < result }
+        // The invariant of a command that waits.
         ensures always { IsQueued self.now }
     {
         self.work.left(self.parked.rows_done())
     }
 
-    /// Returns the command's lease for a board, and the job that the board is to be loaded with.
-    /// The job goes on from the parked step, or a copy of the image at home.
+    /// Leases the command to a board. Returns the lease, and the job to load the board with. The
+    /// job goes on from the parked step, or from a copy of the image at home.
     pub fn lease(self, board: u8) -> (Lease, Job)
         // For whatever machine and command.
         ensures stands { (m : Machine) (c : Command) →

@@ -57,23 +57,23 @@ impl Resting {
     ghost use Rattle.cam6_slot.specs.Stands.{Stands};
     ghost use Rattle.cam6_slot.specs.Works.{machine_at_home, command_in};
 
-    /// A machine with no command under way.
+    /// Makes it of a machine that has no command under way.
     pub fn new(machine: Machine) -> Resting
         ensures { result ≡ machine }
     {
         Resting { machine }
     }
 
-    /// Gives the machine back, as the last command left it.
+    /// Returns the machine, as the last command left it.
     pub fn into_machine(self) -> Machine
         ensures { result ≡ self }
     {
         self.machine
     }
 
-    /// Does a command without steps, and replies to it. Of any other says which steps are to be
-    /// done, and does nothing. `queue` hands them out. Allocates all memory of the command. If that
-    /// fails, the machine is as it was.
+    /// Does a command without steps, and returns its reply. For a command with steps, returns their
+    /// number and direction, and does none: the caller passes them to `queue`. Allocates all memory
+    /// of the command. If that fails, the machine is as it was.
     pub fn now(&mut self, command: Command) -> Result<Now, NoMemory>
         ensures says { IfOk result (λ now.
             Says (machine_of self.old) command now (machine_of self.new)) }
@@ -85,7 +85,7 @@ impl Resting {
         self.machine.now(command)
     }
 
-    /// Hands out the steps of a command, to wait for a board, with the machine's image at home.
+    /// Makes the command of these steps wait for a board. The machine's image is the one at home.
     pub fn queue(self, steps: u16, direction: Direction) -> Queued
         requires { CanWork (Now.Work steps direction) (machine_of self) }
         // For whatever machine and command they are said of.
@@ -110,7 +110,8 @@ impl Resting {
     }
 
     /// Gives the machine a command. A command without steps is done at once. The steps of any other
-    /// wait for a board. Allocates all memory of the command.
+    /// command wait for a board. Allocates all memory of the command. If that fails, returns the
+    /// machine as it was.
     pub fn ask(mut self, command: Command) -> Asked
         ensures stands { StandsFor (machine_of self) command result }
         ensures left { HasLeft (bands_of (machine_of self) command) result }

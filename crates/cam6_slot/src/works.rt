@@ -80,30 +80,32 @@ impl Work {
         }
     }
 
-    /// Returns the image at home. The clause `work` gives the invariant of steps under way.
+    /// Returns the image at home. If a board fails, the command goes on from it.
     pub(crate) fn home(&self) -> &AtRest
         ensures planes { result.now.planes ≡ self.now.home }
+        // The invariant of steps under way.
         ensures work { IsWork self.now }
     {
         &self.home
     }
 
-    /// Returns what the machine keeps. The clause `work` gives the invariant of steps under way.
+    /// Returns what the machine keeps while its images are away.
     pub(crate) fn kept(&self) -> &Kept
         ensures kept { result.now ≡ self.now.kept }
+        // The invariant of steps under way.
         ensures work { IsWork self.now }
     {
         &self.kept
     }
 
-    /// The way along the cycle: forward for a run, backward for steps that are undone.
+    /// Returns the direction along the cycle: forward for `run`, backward for `back`.
     pub(crate) fn direction(&self) -> Direction
         ensures { result ≡ self.now.direction }
     {
         self.direction
     }
 
-    /// Returns the cycle. It is set, since there are steps.
+    /// Returns the machine's cycle. It is set, since there are steps.
     pub(crate) fn cycle(&self) -> &Cycle
         ensures cycle { result.now ≡ self.now.kept.cycle }
         ensures within { self.now.reached.position < length result.now }
@@ -115,7 +117,7 @@ impl Work {
         }
     }
 
-    /// Returns how many bands are left after so many rows of a step.
+    /// Returns how many bands are left if `rows` rows of the next step are done.
     pub(crate) fn left(&self, rows: u16) -> u64
         requires rows { rows < width self.now.home }
         requires step { 0 < rows → self.now.reached.steps < self.now.total }
@@ -134,7 +136,7 @@ impl Work {
         self.cycle().tables_needed(self.direction).len() as u8
     }
 
-    /// The rest of the steps, as a job on an image.
+    /// Returns a job that does the rest of the steps on this image.
     pub(crate) fn job(&self, image: Image) -> Job
         ensures image { result.image ≡ image }
         ensures cycle { result.cycle ≡ self.now.kept.cycle }
@@ -147,7 +149,7 @@ impl Work {
         Job::new(image, cycle, self.reached.position, self.direction, steps)
     }
 
-    /// Counts one more whole step as done.
+    /// Counts one more whole step as done, and moves the position on.
     pub(crate) fn go(&mut self)
         requires { self.old.reached.steps < self.old.total }
         ensures { self.new ≡ one_on self.old }
@@ -159,7 +161,8 @@ impl Work {
         };
     }
 
-    /// Puts this image at home, with all that is done. Returns the image that was there as spare.
+    /// Makes this image the one at home, which has all steps that are done. Returns the planes of
+    /// the old one as spare.
     pub(crate) fn come_home(&mut self, image: AtRest) -> Spare
         requires some { self.old.reached.steps < self.old.total }
         requires limit { image.planes.limit ≡ self.old.home.limit }
@@ -171,14 +174,16 @@ impl Work {
         Spare::of(home.into_planes())
     }
 
-    /// Counts only those steps as done that the image at home has.
+    /// Counts only those steps as done that the image at home has. Moves the position back
+    /// likewise.
     pub(crate) fn go_back(&mut self)
         ensures { self.new ≡ back_home self.old }
     {
         self.reached = self.base;
     }
 
-    /// Finishes the command: all steps are done, with this image.
+    /// Finishes the command, all of whose steps are done. Returns the machine with this image, and
+    /// the reply for its user.
     pub(crate) fn finish(self, image: AtRest) -> Finished
         requires { image.planes.limit ≡ self.home.limit }
         ensures { result ≡ finished_with self image.planes }
@@ -198,14 +203,14 @@ impl Work {
     }
 }
 
-/// The bands of one step.
+/// Returns the number of bands of one step.
 fn bands_of_step(side: Side) -> u64
     ensures bands { result ≡ bands_of_step side }
 {
     (side.number() / BAND) as u64
 }
 
-/// The reply to steps, once they have come to a position.
+/// Returns the reply to `run` or `back` after its last step: its word, and the position.
 fn reply_at(direction: Direction, position: usize) -> Reply
     ensures { result ≡ reply_at direction position }
 {

@@ -31,7 +31,7 @@ impl Filling {
     ghost use Rattle.cam6_slot.specs.Needs.{needs_of};
     ghost use Rattle.cam6_station.specs.Loading.{FillsOne, LoadsOne, IsAfterLoads};
 
-    /// Tables whose entries may be anything until they are filled.
+    /// Allocates the tables. Their entries may be anything until they are filled.
     pub fn new(alloc: Global) -> Result<Filling, NoMemory> {
         Ok(Filling {
             key: Key::scratch(alloc)?,
@@ -40,15 +40,16 @@ impl Filling {
         })
     }
 
-    /// The tables that were filled last.
+    /// Returns the tables, as they were filled last.
     pub fn tables(&self) -> &Tables
         ensures { result.now ≡ self.now }
     {
         &self.tables
     }
 
-    /// Fills the tables that a lease needs, in the order of their uses, each through the cache. It
-    /// allocates only for what is newly cached. If that allocation fails nobody sees it.
+    /// Fills the tables that a lease needs, in the order of their uses. Copies what the cache has,
+    /// and caches what it lacks. Allocates only to cache a table. If that fails, the table isn't
+    /// cached, and is right all the same.
     pub fn fill(&mut self, cache: &mut TableCache, lease: &Lease)
         ensures tables { TablesFit lease.now.work self.new }
         ensures loads { IsAfterLoads lease.now.work cache.old cache.new }
@@ -59,9 +60,9 @@ impl Filling {
         }
     }
 
-    /// Fills the table of one use of a rule, counted from 0, through the cache. Returns whether the
-    /// cache had it. Allocates only for a newly cached table. If that fails, the table is right all
-    /// the same.
+    /// Fills the table of one use of a rule, counted from 0. Copies it from the cache, or caches
+    /// it. Returns whether the cache had it. Allocates only to cache a table. If that fails, the
+    /// table isn't cached, and is right all the same.
     pub fn fill_one(&mut self, cache: &mut TableCache, lease: &Lease, index: u8) -> bool
         requires { index < needs_of lease.now.work }
         ensures table { FillsOne lease.now.work index self.old self.new }

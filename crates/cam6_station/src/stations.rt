@@ -62,7 +62,7 @@ impl<B: Board> Model for Station<B> {
 impl Station<SoftBoard> {
     ghost use Rattle.std.specs.Prelude.{◌≡◌};
 
-    /// The board of this station has never failed. Does nothing.
+    /// Does nothing. Its clause states that the board of this station has never failed.
     pub fn never_failed(&self)
         ensures { self.now.faults ≡ 0 }
     {
@@ -81,7 +81,7 @@ impl<B: Board> Station<B> {
     ghost use Rattle.cam6_station.specs.Held.{idle, loaded, dead, IsFit, IsLoaded, IsAlive};
     ghost use Rattle.cam6_station.specs.Held.{is_idle, is_loaded, is_dead, lease_on, rows_on};
 
-    /// An idle station with this board.
+    /// Makes an idle station with this board, which has to be empty.
     pub fn of(board: B) -> Station<B>
         requires { B.held board ≡ empty }
         ensures { result ≡ record { at = idle; faults = B.fault_count board } }
@@ -92,7 +92,7 @@ impl<B: Board> Station<B> {
         }
     }
 
-    /// The empty board of a station that holds nothing.
+    /// Returns the station's board, which has to hold nothing.
     pub fn into_board(self) -> B
         requires { is_loaded self.at ≡ false }
         ensures empty { B.held result ≡ empty }
@@ -108,7 +108,7 @@ impl<B: Board> Station<B> {
         matches!(self.post, Post::Idle)
     }
 
-    /// Whether the board holds the job of a user's lease.
+    /// Whether the board holds the job of a user's command.
     pub fn is_loaded(&self) -> bool
         ensures { result ≡ is_loaded self.now.at }
     {
@@ -122,10 +122,10 @@ impl<B: Board> Station<B> {
         matches!(self.post, Post::Dead)
     }
 
-    /// The lease of the command that is held, if one is. The clause `always` gives the invariant of
-    /// a station.
+    /// Returns the lease of the command that the board holds, or `None` if it holds none.
     pub fn lease(&self) -> Option<&Lease>
         ensures lease { option_copied result ≡ lease_on self.now.at }
+        // The invariant of a station.
         ensures always { IsFit self.now.at }
     {
         match &self.post {
@@ -134,7 +134,8 @@ impl<B: Board> Station<B> {
         }
     }
 
-    /// The rows of the step under way that are done, if a command is held.
+    /// Returns how many rows of the step under way are done, or `None` if the board holds no
+    /// command.
     pub fn rows(&self) -> Option<u16>
         ensures { result ≡ rows_on self.now.at }
     {
@@ -142,7 +143,7 @@ impl<B: Board> Station<B> {
     }
 
     /// Loads an idle station with the lease of a user. If the board fails, the station is dead.
-    /// Then returns the command, which waits again with what is at its home.
+    /// Then returns the command as `Err`. It waits again, from its image at home.
     pub fn load(
         &mut self,
         user: User,
@@ -175,9 +176,9 @@ impl<B: Board> Station<B> {
         }
     }
 
-    /// Does one band on the board, and counts it in the lease. After the last one the command is
-    /// finished, and the board is idle. If the board fails, the station is dead, and the command
-    /// waits again with what is at its home.
+    /// Does one band on the board, and counts it in the lease. After the command's last band,
+    /// returns the finished command, and the board is idle. If the board fails, the station is
+    /// dead, and the command that is returned waits again from its image at home.
     pub fn band(&mut self) -> Banded
         requires { IsLoaded self.old.at }
         ensures gives { BandGives self.old.at result self.new.at }
@@ -189,7 +190,7 @@ impl<B: Board> Station<B> {
         match self.board.band() {
             Ok(end) => lease.advance(end),
             Err(fault) => {
-                let (user, lease) = taken(&mut self.post, Post::Dead);
+                let (user, lease) = take_lease(&mut self.post, Post::Dead);
                 return Banded::Lost(user, lease.lost(fault.spare));
             }
         }
@@ -199,18 +200,18 @@ impl<B: Board> Station<B> {
         }
         match self.board.unload() {
             Ok(image) => {
-                let (user, lease) = taken(&mut self.post, Post::Idle);
+                let (user, lease) = take_lease(&mut self.post, Post::Idle);
                 Banded::Last(user, lease.finish(at_rest(image)))
             }
             Err(fault) => {
-                let (user, lease) = taken(&mut self.post, Post::Dead);
+                let (user, lease) = take_lease(&mut self.post, Post::Dead);
                 Banded::Lost(user, lease.lost(fault.spare))
             }
         }
     }
 
-    /// Takes the user's command off the board, which is idle after that. If the board fails, it is
-    /// dead, and the command waits again with what is at its home.
+    /// Takes the user's command off the board, and returns it. The board is idle then. If the board
+    /// fails, it is dead, and the command waits again from its image at home.
     pub fn preempt(&mut self) -> Preempted
         requires { IsLoaded self.old.at }
         ensures gives { PreemptGives self.old.at result self.new.at }
@@ -218,18 +219,18 @@ impl<B: Board> Station<B> {
     {
         match self.board.unload() {
             Ok(image) => {
-                let (user, lease) = taken(&mut self.post, Post::Idle);
+                let (user, lease) = take_lease(&mut self.post, Post::Idle);
                 Preempted::Back(user, lease.preempt(image))
             }
             Err(fault) => {
-                let (user, lease) = taken(&mut self.post, Post::Dead);
+                let (user, lease) = take_lease(&mut self.post, Post::Dead);
                 Preempted::Lost(user, lease.lost(fault.spare))
             }
         }
     }
 
-    /// Makes the board fail, so that it is dead and loses what it holds. Returns the command that
-    /// it held with its user, or `None`. The command waits again with what is at its home.
+    /// Makes the board fail: it is dead, and loses what it holds. Returns the user and the command
+    /// that it held, or `None`. The command waits again from its image at home.
     pub fn fail(&mut self) -> Option<(User, Queued)>
         requires { IsAlive self.old.at }
         ensures back { FailGives self.old.at result }
@@ -255,8 +256,8 @@ impl<B: Board> Station<B> {
     }
 }
 
-/// Puts `after` in the place of a post that has a lease. Returns the user and the lease.
-fn taken(post: &mut Post, after: Post) -> (User, Lease)
+/// Replaces a post that has a lease by `after`. Returns the user and the lease.
+fn take_lease(post: &mut Post, after: Post) -> (User, Lease)
     requires { HasLease post.old }
     ensures was { post.old ≡ Post.Loaded result.0 result.1 }
     ensures after { post.new ≡ after }
@@ -267,7 +268,7 @@ fn taken(post: &mut Post, after: Post) -> (User, Lease)
     }
 }
 
-/// An image that is at rest.
+/// Returns the image that this image is, which has to be at rest.
 fn at_rest(image: Image) -> AtRest
     requires { is_rest image ≡ true }
     ensures { image ≡ Image.Rest result }

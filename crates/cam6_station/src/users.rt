@@ -24,7 +24,7 @@ impl Model for User {
 }
 
 impl User {
-    /// The user with this number, 1 to 32.
+    /// Returns the user with this number, 1 to 32.
     pub fn numbered(number: usize) -> User
         requires a_user { 0 < number }
         requires few { number ≤ max_users }
@@ -34,7 +34,7 @@ impl User {
         User { number }
     }
 
-    /// The user's number, 1 to 32.
+    /// Returns the user's number, 1 to 32.
     pub fn number(self) -> u8
         ensures number { result ≡ self }
         ensures a_user { 0 < result }
@@ -43,7 +43,7 @@ impl User {
         self.number
     }
 
-    /// The user's row in a list of users. Rows are counted from 0.
+    /// Returns the user's row in a list of users, counted from 0: the number less 1.
     pub fn row(self) -> usize
         ensures row { result ≡ self - 1 }
         ensures within { result < max_users }

@@ -11,7 +11,7 @@ pub returns-in-More-clause-takes : goal.returns-in-More-clause-takes
 returns-in-More-clause-takes c =
     let s = c.args.self.now in
     let b = c.args.board in
-    let new = board_of c.band_on.new.self b in
+    let new = board_of c.run_band.new.self b in
     subst (Moves s (event.Band b) (outcome.Banded c.in-More.left)) (sym c.in-More.ensures.others)
     (band_goes s b c.in-More.left new c.requires c.in-More.ensures.gives).0
 
@@ -19,7 +19,7 @@ pub returns-in-More-clause-others : goal.returns-in-More-clause-others
 returns-in-More-clause-others c =
     let s = c.args.self.now in
     let b = c.args.board in
-    let new = board_of c.band_on.new.self b in
+    let new = board_of c.run_band.new.self b in
     subst (Spares (event.Band b) s) (sym c.in-More.ensures.others) (
       (band_goes s b c.in-More.left new c.requires c.in-More.ensures.gives).1,
       spares_boards s b new,
@@ -30,7 +30,7 @@ pub returns-in-Last-clause-takes : goal.returns-in-Last-clause-takes
 returns-in-Last-clause-takes c =
     let s = c.args.self.now in
     let b = c.args.board in
-    let new = board_of c.band_on.new.self b in
+    let new = board_of c.run_band.new.self b in
     let f = whereabouts.Finished c.in-Last.finished in
     let is = c.set_user.ensures ∙
     ap (λ (z : State). with_user z c.in-Last.user f) c.in-Last.ensures.others in
@@ -42,7 +42,7 @@ pub returns-in-Last-clause-others : goal.returns-in-Last-clause-others
 returns-in-Last-clause-others c =
     let s = c.args.self.now in
     let b = c.args.board in
-    let new = board_of c.band_on.new.self b in
+    let new = board_of c.run_band.new.self b in
     let f = whereabouts.Finished c.in-Last.finished in
     let is = c.set_user.ensures ∙
     ap (λ (z : State). with_user z c.in-Last.user f) c.in-Last.ensures.others in

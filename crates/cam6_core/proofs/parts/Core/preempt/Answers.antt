@@ -12,27 +12,27 @@ pub returns-clause-takes : goal.returns-clause-takes
 returns-clause-takes c =
     let s = c.args.self.now in
     let b = c.args.board in
-    let u = c.preempt_on-user.result.0 in
-    let q = c.preempt_on-user.result.1 in
+    let u = c.preempt_board-user.result.0 in
+    let q = c.preempt_board-user.result.1 in
     let is = c.set_user.ensures ∙
-    ap (λ (z : State). with_user z u (whereabouts.Queued q)) c.preempt_on-user.ensures.idle in
+    ap (λ (z : State). with_user z u (whereabouts.Queued q)) c.preempt_board-user.ensures.idle in
     subst (Moves s (event.Preempt b) (outcome.Preempted c.left-left.result)) (sym is)
     (subst (λ n. Moves s (event.Preempt b) (outcome.Preempted n)
     (with_user (with_board s b board.idle) u (whereabouts.Queued q))) (sym c.left-left.ensures.left)
     (preempt_goes s b c.places_have_the_side.ensures.law u q c.left-left.ensures.always c.requires
-    c.preempt_on-user.ensures.back c.preempt_on-user.ensures.user).0)
+    c.preempt_board-user.ensures.back c.preempt_board-user.ensures.user).0)
 
 pub returns-clause-others : goal.returns-clause-others
 returns-clause-others c =
     let s = c.args.self.now in
     let b = c.args.board in
-    let u = c.preempt_on-user.result.0 in
-    let q = c.preempt_on-user.result.1 in
+    let u = c.preempt_board-user.result.0 in
+    let q = c.preempt_board-user.result.1 in
     let is = c.set_user.ensures ∙
-    ap (λ (z : State). with_user z u (whereabouts.Queued q)) c.preempt_on-user.ensures.idle in
+    ap (λ (z : State). with_user z u (whereabouts.Queued q)) c.preempt_board-user.ensures.idle in
     subst (Spares (event.Preempt b) s) (sym is) (
       (preempt_goes s b c.places_have_the_side.ensures.law u q c.left-left.ensures.always c.requires
-          c.preempt_on-user.ensures.back c.preempt_on-user.ensures.user).1,
+          c.preempt_board-user.ensures.back c.preempt_board-user.ensures.user).1,
       spares_boards s b board.idle,
       refl,
     )

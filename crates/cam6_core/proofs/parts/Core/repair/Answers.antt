@@ -10,12 +10,12 @@ pub returns-clause-takes : goal.returns-clause-takes
 returns-clause-takes c =
     let s = c.args.self.now in
     let b = c.args.board in
-    subst (Moves s (event.Repair b) outcome.Repaired) (sym c.repair_on.ensures)
+    subst (Moves s (event.Repair b) outcome.Repaired) (sym c.repair_board.ensures)
     (repair_goes s b c.requires)
 
 pub returns-clause-others : goal.returns-clause-others
 returns-clause-others c =
     let s = c.args.self.now in
     let b = c.args.board in
-    subst (Spares (event.Repair b) s) (sym c.repair_on.ensures)
+    subst (Spares (event.Repair b) s) (sym c.repair_board.ensures)
     (refl, spares_boards s b board.idle, refl)

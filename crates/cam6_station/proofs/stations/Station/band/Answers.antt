@@ -17,14 +17,14 @@ pub returns-in-Err-clause-gives : goal.returns-in-Err-clause-gives
 returns-in-Err-clause-gives g c =
     let load = g.B.Board.held c.self.inside.board in
     let now = g.B.Board.held c.band.new.self in
-    let u = c.taken-user.result.0 in
-    let l = c.taken-user.result.1 in
-    let was = c.in-Loaded.is ∙ c.taken-user.ensures.was in
+    let u = c.take_lease-user.result.0 in
+    let l = c.take_lease-user.result.1 in
+    let was = c.in-Loaded.is ∙ c.take_lease-user.ensures.was in
     let held = subst (λ (p : Post). IsManned p load) was c.self.invariant in
     as_known (λ (s after : Manned). BandGives s (Lost u c.lost.result) after)
-    c.self.inside.post (Loaded u l) load c.args.self.now.at (manned c.taken-user.new.post now) dead
+    c.self.inside.post (Loaded u l) load c.args.self.now.at (manned c.take_lease-user.new.post now) dead
     was (ap (λ (s : Stationed). s.at) c.self.view_is)
-    (ap (λ (p : Post). manned p now) c.taken-user.ensures.after)
+    (ap (λ (p : Post). manned p now) c.take_lease-user.ensures.after)
     (goes_home u l load c.lost.result held c.lost.ensures.stands c.lost.ensures.left
     c.lost.ensures.home).0
 
@@ -67,7 +67,8 @@ finish-requires-clause-limit g c =
     let k = c.advance.new.self in
     let by = c.advance.ensures in
     let held = subst (λ (p : Post). IsManned p load) c.in-Loaded.is c.self.invariant in
-    let same : c.taken-user-in-Ok-unload.result.1 ≡ k = cc c.taken-user-in-Ok-unload.ensures.was in
+    let same : c.take_lease-user-in-Ok-unload.result.1 ≡ k =
+    cc c.take_lease-user-in-Ok-unload.ensures.was in
     sym (ap (λ i. (planes_in i).limit) c.at_rest.ensures)
     ∙ limit_back k after c.in-Ok-unload.image
     (fits_on u l k by.stands by.fits by.tables by.left by.home c.in-Ok.end load after held
@@ -83,8 +84,8 @@ lost-requires-in-Err-unload g c =
     let k = c.advance.new.self in
     let by = c.advance.ensures in
     let held = subst (λ (p : Post). IsManned p load) c.in-Loaded.is c.self.invariant in
-    let same : c.taken-user-in-Err-unload.result.1 ≡ k =
-    cc c.taken-user-in-Err-unload.ensures.was in
+    let same : c.take_lease-user-in-Err-unload.result.1 ≡ k =
+    cc c.take_lease-user-in-Err-unload.ensures.was in
     limit_lost k after c.in-Err-unload.fault.spare.planes.limit
     (fits_on u l k by.stands by.fits by.tables by.left by.home c.in-Ok.end load after held
     c.in-Ok.ensures.ok) c.in-Err-unload.ensures.spare
@@ -100,14 +101,16 @@ returns-in-Ok-unload-clause-gives g c =
     let by = c.advance.ensures in
     let held = subst (λ (p : Post). IsManned p load) c.in-Loaded.is c.self.invariant in
     let now = g.B.Board.held c.unload.new.self in
-    let same : c.taken-user-in-Ok-unload.result.1 ≡ k = cc c.taken-user-in-Ok-unload.ensures.was in
-    let user : c.taken-user-in-Ok-unload.result.0 ≡ u = cc c.taken-user-in-Ok-unload.ensures.was in
+    let same : c.take_lease-user-in-Ok-unload.result.1 ≡ k =
+    cc c.take_lease-user-in-Ok-unload.ensures.was in
+    let user : c.take_lease-user-in-Ok-unload.result.0 ≡ u =
+    cc c.take_lease-user-in-Ok-unload.ensures.was in
     as_known (λ (s out : Manned).
-    BandGives s (Last c.taken-user-in-Ok-unload.result.0 c.finish.result) out)
+    BandGives s (Last c.take_lease-user-in-Ok-unload.result.0 c.finish.result) out)
     c.self.inside.post (Loaded u l) load c.args.self.now.at
-    (manned c.taken-user-in-Ok-unload.new.post now) idle c.in-Loaded.is
+    (manned c.take_lease-user-in-Ok-unload.new.post now) idle c.in-Loaded.is
     (ap (λ (s : Stationed). s.at) c.self.view_is)
-    (ap (λ (p : Post). manned p now) c.taken-user-in-Ok-unload.ensures.after)
+    (ap (λ (p : Post). manned p now) c.take_lease-user-in-Ok-unload.ensures.after)
     (subst (λ (v : ℕ). BandGives (manned (Loaded u l) load) (Last v c.finish.result) idle) (sym user)
     (ends u l k by.stands by.fits by.tables by.left by.home c.in-Ok.end load after
     c.in-Ok-unload.image c.at_rest.result c.finish.result
@@ -128,16 +131,16 @@ returns-in-Err-unload-clause-gives g c =
     let held = subst (λ (p : Post). IsManned p load) c.in-Loaded.is c.self.invariant in
     let now = g.B.Board.held c.unload.new.self in
     let lost = c.lost-in-Err-unload.ensures in
-    let same : c.taken-user-in-Err-unload.result.1 ≡ k =
-    cc c.taken-user-in-Err-unload.ensures.was in
-    let user : c.taken-user-in-Err-unload.result.0 ≡ u =
-    cc c.taken-user-in-Err-unload.ensures.was in
+    let same : c.take_lease-user-in-Err-unload.result.1 ≡ k =
+    cc c.take_lease-user-in-Err-unload.ensures.was in
+    let user : c.take_lease-user-in-Err-unload.result.0 ≡ u =
+    cc c.take_lease-user-in-Err-unload.ensures.was in
     as_known (λ (s out : Manned).
-    BandGives s (Lost c.taken-user-in-Err-unload.result.0 c.lost-in-Err-unload.result) out)
+    BandGives s (Lost c.take_lease-user-in-Err-unload.result.0 c.lost-in-Err-unload.result) out)
     c.self.inside.post (Loaded u l) load c.args.self.now.at
-    (manned c.taken-user-in-Err-unload.new.post now) dead c.in-Loaded.is
+    (manned c.take_lease-user-in-Err-unload.new.post now) dead c.in-Loaded.is
     (ap (λ (s : Stationed). s.at) c.self.view_is)
-    (ap (λ (p : Post). manned p now) c.taken-user-in-Err-unload.ensures.after)
+    (ap (λ (p : Post). manned p now) c.take_lease-user-in-Err-unload.ensures.after)
     (subst (λ (v : ℕ).
     BandGives (manned (Loaded u l) load) (Lost v c.lost-in-Err-unload.result) dead) (sym user)
     (ends_lost u l k by.stands by.fits by.tables by.left by.home c.in-Ok.end load after

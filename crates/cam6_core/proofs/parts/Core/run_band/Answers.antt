@@ -7,7 +7,7 @@ use Rattle.cam6_core.specs.Internal.Returning.{IsOfUser}
 use Rattle.cam6_core.proofs.Numbers.{within}
 use Rattle.cam6_core.proofs.Changing.{loaded_there, seen, stands_there, held_with}
 use Rattle.cam6_core.proofs.Changing.{band_held}
-use Rattle.cam6_core.proofs.parts.Core.band_on.Goals as goal
+use Rattle.cam6_core.proofs.parts.Core.run_band.Goals as goal
 
 pub invariant_of-self : goal.invariant_of-self
 invariant_of-self c =

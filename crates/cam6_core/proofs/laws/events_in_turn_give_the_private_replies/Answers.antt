@@ -1,5 +1,5 @@
 use Rattle.cam6_core.proofs.Agreement.{enough}
-use Rattle.cam6_core.proofs.laws.events_one_after_another_have_the_headline.Goals as goal
+use Rattle.cam6_core.proofs.laws.events_in_turn_give_the_private_replies.Goals as goal
 
 pub returns : goal.returns
 returns c = record { law = enough }

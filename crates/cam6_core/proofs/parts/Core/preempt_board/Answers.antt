@@ -6,7 +6,7 @@ use Rattle.cam6_core.specs.State.{State, board_of, IsNumber, IsHeldWithin}
 use Rattle.cam6_core.proofs.Numbers.{within}
 use Rattle.cam6_core.proofs.Changing.{loaded_there, seen, held_with}
 use Rattle.cam6_core.proofs.Changing.{preempt_held}
-use Rattle.cam6_core.proofs.parts.Core.preempt_on.Goals as goal
+use Rattle.cam6_core.proofs.parts.Core.preempt_board.Goals as goal
 
 pub invariant_of-self : goal.invariant_of-self
 invariant_of-self c =

@@ -5,7 +5,7 @@ use Rattle.cam6_core.specs.State.{State, board_of}
 use Rattle.cam6_core.specs.Internal.Returning.{IsOfUserIf}
 use Rattle.cam6_core.proofs.Changing.{alive_there, seen}
 use Rattle.cam6_core.proofs.Changing.{fail_held}
-use Rattle.cam6_core.proofs.parts.Core.fail_on.Goals as goal
+use Rattle.cam6_core.proofs.parts.Core.fail_board.Goals as goal
 
 pub returns-clause-user : goal.returns-clause-user
 returns-clause-user c =
