@@ -10,8 +10,12 @@ use crate::statuses::WRITE_FAILED;
 use std::env::Env;
 use std::process::ExitCode;
 
-/// Reads the arguments, or returns why they can't be read. The first is the program's name.
-pub fn words_given<R: Env + AllocGlobal>(rt: &R, program: Program) -> Result<Vec<String>, Refused>
+/// Reads the program's arguments, of which the first is its name. If they can't be read, returns
+/// the refusal.
+pub fn read_arguments<R: Env + AllocGlobal>(
+    rt: &R,
+    program: Program,
+) -> Result<Vec<String>, Refused>
     ensures { IfErr result (λ refused. (kind : ErrorKind) × IsUnreadable program refused kind) }
 {
     let args = match std::env::args(rt) {
@@ -24,7 +28,8 @@ pub fn words_given<R: Env + AllocGlobal>(rt: &R, program: Program) -> Result<Vec
     }
 }
 
-/// Prints help, or why the arguments are refused, and returns the exit status.
+/// Prints help to standard output, or the refusal of the arguments to standard error. Returns the
+/// exit status.
 pub fn refuse(rt: &(impl Print + Eprint), program: Program, refused: &Refused) -> ExitCode
     ensures refused { (refusal program refused.now).0 ≢ 0
         → exit_status result ≡ (refusal program refused.now).0 }
@@ -34,16 +39,16 @@ pub fn refuse(rt: &(impl Print + Eprint), program: Program, refused: &Refused) -
 {
     let (status, text) = refusal_of(program, refused);
     if status != 0 {
-        return failed(rt, status, text);
+        return report_failure(rt, status, text);
     }
     match rt.print(text) {
         Ok(()) => ExitCode::SUCCESS,
-        Err(_) => failed(rt, WRITE_FAILED, program.write_failed()),
+        Err(_) => report_failure(rt, WRITE_FAILED, program.write_failed()),
     }
 }
 
-/// Prints a text to standard error, and returns the exit status.
-pub fn failed(rt: &impl Eprint, status: u8, text: &str) -> ExitCode
+/// Prints a text to standard error, and returns this exit status.
+pub fn report_failure(rt: &impl Eprint, status: u8, text: &str) -> ExitCode
     ensures { exit_status result ≡ status }
 {
     // Standard error is the last place for a report, so a failure to write there isn't reported.

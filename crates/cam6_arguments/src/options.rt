@@ -18,7 +18,7 @@ pub const MAX_PORT: u64 = 65_535;
 
 /// Makes a program's command, with its version and without options. Help begins with `about` and
 /// ends with `after_help`.
-pub fn named<'a>(
+pub fn new_command<'a>(
     alloc: Global,
     program: Program,
     about: &'a str,

@@ -18,7 +18,7 @@ pub enum Program {
 }
 
 impl Program {
-    /// Returns its name.
+    /// Returns the program's name.
     pub fn name(self) -> &'static str
         ensures { result.now ≡ name_of self }
     {
@@ -54,7 +54,7 @@ impl Program {
         }
     }
 
-    /// Returns the line, with its LF, if the line that says why can't be allocated.
+    /// Returns the line, with its LF, to print if the line with the reason can't be allocated.
     pub fn no_memory_to_say_why(self) -> &'static str
         ensures { result.now ≡ message_of self (codes "no memory to say why\n") }
     {
@@ -67,7 +67,7 @@ impl Program {
     }
 }
 
-/// Returns the program's name, a colon, a space and the text.
+/// Returns the program's name, a colon, a space and the text, as a new string.
 pub fn message_of(alloc: Global, program: Program, text: &str) -> Result<String, AllocError>
     ensures { IfOk result (λ line. string_bytes line ≡ message_of program text.now) }
 {

@@ -37,8 +37,8 @@ pub fn refusal_of(program: Program, refused: &Refused) -> (u8, &str)
     }
 }
 
-/// Returns what clap's error means for a program: its help, arguments that are refused, or that an
-/// allocation failed. The hint stands after the text of refused arguments.
+/// Returns the refusal for an error of clap's: help, refused arguments, or that an allocation
+/// failed. The hint stands after the text of refused arguments.
 pub fn refusal(alloc: Global, error: clap::Error, hint: &str) -> Refused
     ensures kind { IsOfKind result (kind_of error) }
     ensures hint { EndsWith result hint.now }
@@ -47,8 +47,8 @@ pub fn refusal(alloc: Global, error: clap::Error, hint: &str) -> Refused
     refusal_of_kind(kind, error.to_string(alloc), hint)
 }
 
-/// Returns what an error of clap's of this kind means for a program. `text` is its text, or an
-/// error if that couldn't be allocated. The hint stands after the text of refused arguments.
+/// Returns the refusal for an error of clap's of this kind. `text` is its text, or an error if that
+/// couldn't be allocated. The hint stands after the text of refused arguments.
 pub fn refusal_of_kind(kind: ErrorKind, text: Result<String, AllocError>, hint: &str) -> Refused
     ensures kind { IsOfKind result kind }
     ensures text { IfOk text (λ text. HasText result (string_bytes text) hint.now) }
@@ -79,10 +79,10 @@ fn with_hint(text: String, hint: &str) -> Refused
     }
 }
 
-/// Returns the refusal that prints `text`, as it is, if clap has not refused the arguments itself:
-/// they ask for nothing, or a word isn't UTF-8. `text` is a whole line with the program's name and
-/// LF, or an error if that couldn't be allocated.
-pub fn unasked(text: Result<String, AllocError>) -> Refused
+/// Returns the refusal with this text, for arguments that clap takes: they ask for nothing, or a
+/// word isn't UTF-8. `text` is a whole line with the program's name and LF, or an error if that
+/// couldn't be allocated.
+pub fn refusal_of_text(text: Result<String, AllocError>) -> Refused
     ensures refusal { IsRefusal result }
     ensures text { MatchResult text (λ text. result ≡ Refused.Words text)
         (λ _. result ≡ Refused.NoMemory) }
@@ -93,13 +93,13 @@ pub fn unasked(text: Result<String, AllocError>) -> Refused
     }
 }
 
-/// Returns the refusal of arguments that could not be read. There was no memory, or else a word
+/// Returns the refusal of arguments that could not be read: an allocation failed, or else a word
 /// isn't UTF-8.
 pub fn refusal_of_read(alloc: Global, program: Program, kind: io::ErrorKind) -> Refused
     ensures { IsUnreadable program result kind }
 {
     match kind {
         io::ErrorKind::OutOfMemory => Refused::NoMemory,
-        _ => unasked(message_of(alloc, program, "an argument is not UTF-8\n")),
+        _ => refusal_of_text(message_of(alloc, program, "an argument is not UTF-8\n")),
     }
 }

@@ -8,7 +8,7 @@ ghost use Rattle.cam6_arguments.specs.Values.{number_at, number_by, number_said,
 use cam6_planes::Side;
 use clap::ArgMatches;
 
-/// Returns the first text at an option, if it has one.
+/// Returns the first text that was passed to an option, or `None` if there is none.
 pub fn text_at<'a>(matches: &ArgMatches<'a>, name: &str) -> Option<&'a str>
     ensures { option_map (λ text. text.now) result
         ≡ first_of name.now (rows_of (found_of matches.now)) }
@@ -16,7 +16,7 @@ pub fn text_at<'a>(matches: &ArgMatches<'a>, name: &str) -> Option<&'a str>
     matches.get_str(name)
 }
 
-/// Returns all texts at an option, if it has any.
+/// Returns all texts that were passed to an option, or `None` if there is none.
 pub fn texts_at<'m, 'a>(matches: &'m ArgMatches<'a>, name: &str) -> Option<&'m [&'a str]>
     ensures { option_map (λ words. texts words.now) result
         ≡ all_of name.now (rows_of (found_of matches.now)) }
@@ -24,7 +24,8 @@ pub fn texts_at<'m, 'a>(matches: &'m ArgMatches<'a>, name: &str) -> Option<&'m [
     matches.get_raw(name)
 }
 
-/// Returns the number at an option, if it is from `least` to `most`.
+/// Returns the number that was passed to an option, or `None` if it isn't from `least` to `most`,
+/// or there is none.
 pub fn number_at(matches: &ArgMatches<'_>, name: &str, least: u64, most: u64) -> Option<u64>
     ensures number { result ≡ number_at name.now least most (rows_of (found_of matches.now)) }
     ensures within { IfSome result (λ number. (least ≤ number) × (number ≤ most)) }
@@ -32,16 +33,16 @@ pub fn number_at(matches: &ArgMatches<'_>, name: &str, least: u64, most: u64) ->
     number_of(text_at(matches, name)?, least, most)
 }
 
-/// Returns the side at `--side`, or `None` if no side is given there.
+/// Returns the side that was passed to `--side`, or `None` if that is no side.
 pub fn side_at(matches: &ArgMatches<'_>) -> Option<Side>
     ensures { result ≡ side_at (rows_of (found_of matches.now)) }
 {
     Side::named(text_at(matches, "side")?)
 }
 
-/// Returns the number that a word is, or the default if there is no word. Returns `None` if the
-/// word isn't a number from `least` to `most`.
-pub fn number_by(word: Option<&str>, least: u64, most: u64, default: u64) -> Option<u64>
+/// Returns the number that a word is read as, or the default if there is no word. Returns `None` if
+/// the word isn't a number from `least` to `most`.
+pub fn number_or_default(word: Option<&str>, least: u64, most: u64, default: u64) -> Option<u64>
     requires { (least ≤ default) × (default ≤ most) }
     ensures number { result
         ≡ number_by (option_map (λ word. word.now) word.entry) least most default }
@@ -53,7 +54,8 @@ pub fn number_by(word: Option<&str>, least: u64, most: u64, default: u64) -> Opt
     }
 }
 
-/// Returns the number that a word is, if it is from `least` to `most`, for what is counted in memory.
+/// Returns the number that a word is read as, or `None` if it isn't from `least` to `most`. Returns
+/// it as `usize`, to count what is in memory.
 pub fn count_of(word: &str, least: usize, most: usize) -> Option<usize>
     ensures number { result ≡ number_said least most word.now }
     ensures within { IfSome result (λ number. (least ≤ number) × (number ≤ most)) }
@@ -64,7 +66,8 @@ pub fn count_of(word: &str, least: usize, most: usize) -> Option<usize>
     }
 }
 
-/// Returns the number that a word is, if it is from `least` to `most`.
+/// Returns the number that a word is read as, or `None` if it isn't a number from `least` to
+/// `most`.
 pub fn number_of(word: &str, least: u64, most: u64) -> Option<u64>
     ensures number { result ≡ number_said least most word.now }
     ensures within { IfSome result (λ number. (least ≤ number) × (number ≤ most)) }
@@ -75,7 +78,7 @@ pub fn number_of(word: &str, least: u64, most: u64) -> Option<u64>
     bounded(number, least, most)
 }
 
-/// The number, if it is from `least` to `most`.
+/// Returns the number, or `None` if it isn't from `least` to `most`.
 fn bounded(number: u64, least: u64, most: u64) -> Option<u64>
     ensures number { result
         ≡ (if nat_le least number && nat_le number most then Some number else None) }

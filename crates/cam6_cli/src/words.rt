@@ -20,7 +20,8 @@ ghost use Rattle.cam6_cli.specs.Slips.{slip, told_of as what_is_told};
 use crate::modes::{Options, Sharing};
 use crate::slips::{slip_of, told_of};
 use cam6_arguments::{
-    MAX_PORT, Program, Refused, named, number_at, number_option, refusal, side_at, side_option,
+    MAX_PORT, Program, Refused, new_command, number_at, number_option, refusal, side_at,
+    side_option,
 };
 use cam6_cache::MAX_CAPACITY;
 use cam6_core::{MAX_BOARDS, MAX_USERS};
@@ -190,7 +191,7 @@ pub fn program<'a>(alloc: Global) -> Result<Command<'a>, AllocError>
         .after_help(ALONE_TEXT)
         .arg(side_option(alloc, SIDE_TEXT))?;
     let about = "A CAM-6 cellular automata machine; without a command, as `alone`";
-    named(alloc, Program::Cam6, about, PROGRAM_TEXT)
+    new_command(alloc, Program::Cam6, about, PROGRAM_TEXT)
         .subcommand(alone)?
         .subcommand(replay(alloc)?)?
         .subcommand(serve(alloc)?)

@@ -8,7 +8,7 @@
 //! Stands on: `cam6_arguments`, `cam6_draw_cli`, `cam6_show_pictures`, `cam6_show_frames`.
 #![tactic(auto)]
 
-use cam6_arguments::{NO_MEMORY, Program, Refused, failed, refuse, words_given};
+use cam6_arguments::{NO_MEMORY, Program, Refused, read_arguments, refuse, report_failure};
 use cam6_draw_cli::{DrawOptions, Way, options_of_draw, report_end};
 use cam6_show_frames::show_frames;
 use cam6_show_pictures::{Netpbm, Terminal};
@@ -33,7 +33,7 @@ fn run<R: Env + Input + Print + Eprint + AllocGlobal + Clock>(rt: &R) -> ExitCod
 
 /// Reads the program's arguments. Returns its options, or why the arguments are refused.
 fn options_given<R: Env + AllocGlobal>(rt: &R) -> Result<DrawOptions, Refused> {
-    let words = words_given(rt, Program::Draw)?;
+    let words = read_arguments(rt, Program::Draw)?;
     options_of_draw(rt.alloc(), words.as_slice())
 }
 
@@ -44,7 +44,7 @@ fn draw<R: Input + Print + Eprint + AllocGlobal + Clock>(
 ) -> ExitCode {
     let alloc = rt.alloc();
     let Ok(mut reader) = BufReader::new(alloc, rt.reader()) else {
-        return failed(rt, NO_MEMORY, Program::Draw.no_memory());
+        return report_failure(rt, NO_MEMORY, Program::Draw.no_memory());
     };
     let end = match options.way {
         Way::Ppm => {

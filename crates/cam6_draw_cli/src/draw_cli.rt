@@ -17,7 +17,8 @@ ghost use Rattle.cam6_draw_cli.specs.DrawWords.{window_of as window_of_words};
 
 use crate::draw_options::{DrawOptions, Unsaid, Way};
 use cam6_arguments::{
-    Program, Refused, count_of, named, number_by, refusal, text_at, texts_at, unasked, value_option,
+    Program, Refused, count_of, new_command, number_or_default, refusal, refusal_of_text, text_at,
+    texts_at, value_option,
 };
 use cam6_planes::COLUMNS;
 use cam6_show_pictures::{Light, Look, MOST_SCALE, PALETTE, Window, palette_of};
@@ -74,7 +75,7 @@ fn read_matches(alloc: Global, matches: &ArgMatches<'_>) -> Result<DrawOptions, 
 {
     match options_of_matches(matches) {
         Ok(options) => Ok(options),
-        Err(unsaid) => Err(unasked(format!(in alloc; "cam6_draw: {unsaid}\n"))),
+        Err(unsaid) => Err(refusal_of_text(format!(in alloc; "cam6_draw: {unsaid}\n"))),
     }
 }
 
@@ -244,7 +245,7 @@ fn scale_by(word: Option<&str>) -> Result<usize, Unsaid>
     ensures scale { result_ok result ≡ scale_told (option_map (λ word. word.now) word.entry) }
     ensures within { IfOk result (λ scale. (1 ≤ scale) × (scale ≤ 16)) }
 {
-    match number_by(word, 1, MOST_SCALE as u64, 1) {
+    match number_or_default(word, 1, MOST_SCALE as u64, 1) {
         Some(scale) => Ok(scale as usize),
         None => Err(Unsaid::Scale),
     }
@@ -255,7 +256,7 @@ fn program<'a>(alloc: Global) -> Result<Command<'a>, AllocError>
     ensures { IfOk result (λ command. app_of command ≡ program_of) }
 {
     let about = "Reads replies from standard input and writes pictures to standard output";
-    named(alloc, Program::Draw, about, HELP)
+    new_command(alloc, Program::Draw, about, HELP)
         .arg(ppm_option(alloc))?
         .arg(text_option(alloc))?
         .arg(scale_option(alloc))?

@@ -4,7 +4,7 @@ ghost use Rattle.std.specs.Process.{exit_status};
 ghost use Rattle.cam6_draw_cli.specs.Statuses.{failure};
 
 use crate::statuses::failure_of;
-use cam6_arguments::{Program, failed};
+use cam6_arguments::{Program, report_failure};
 use cam6_show_frames::End;
 use std::process::ExitCode;
 
@@ -15,8 +15,8 @@ pub fn report_end<R: Eprint + AllocGlobal>(rt: &R, program: Program, end: End) -
         (λ told. exit_status result ≡ told.0) }
 {
     match failure_of(rt.alloc(), program, end) {
-        Some((status, Ok(text))) => failed(rt, status, text.as_str()),
-        Some((status, Err(_))) => failed(rt, status, program.no_memory_to_say_why()),
+        Some((status, Ok(text))) => report_failure(rt, status, text.as_str()),
+        Some((status, Err(_))) => report_failure(rt, status, program.no_memory_to_say_why()),
         None => ExitCode::SUCCESS,
     }
 }

@@ -17,8 +17,8 @@ ghost use Rattle.cam6_draw_cli.specs.RleWords.{rule_option as option_of_rules};
 
 use crate::rle_options::{Place, RleOptions};
 use cam6_arguments::{
-    Program, Refused, named, number_at, number_option, refusal, side_at, side_option, text_at,
-    unasked,
+    Program, Refused, new_command, number_at, number_option, refusal, refusal_of_text, side_at,
+    side_option, text_at,
 };
 use cam6_patterns::ChosenPlanes;
 use cam6_planes::{COLUMNS, Side};
@@ -178,7 +178,7 @@ fn is_one_line(bytes: &[u8]) -> bool
 fn no_task(alloc: Global) -> Refused
     ensures { IsRefusal result }
 {
-    unasked(String::from_str(alloc, NO_TASK_TEXT))
+    refusal_of_text(String::from_str(alloc, NO_TASK_TEXT))
 }
 
 /// Returns the planes whose numbers are a word's one to four different digits, or `None` for any
@@ -262,7 +262,7 @@ fn program<'a>(alloc: Global) -> Result<Command<'a>, AllocError>
 {
     let about =
         "Turns run-length patterns into command lines of cam6, and its replies into patterns";
-    named(alloc, Program::Rle, about, PROGRAM_TEXT)
+    new_command(alloc, Program::Rle, about, PROGRAM_TEXT)
         .arg(side_option(alloc, "The side of the torus"))?
         .arg(move_option(alloc, "column"))?
         .arg(move_option(alloc, "row"))?

@@ -58,15 +58,16 @@ impl Desk {
     ghost use Rattle.cam6_handoff.specs.Standing.{is_waiting, IsResting};
     ghost use Rattle.cam6_handoff.specs.Desks.{PutGives, CollectGives, AskGives, WantsNone};
 
-    /// Whether it waits for what was put last.
+    /// Whether a command was put at the desk, and its reply isn't collected yet.
     pub fn is_waiting(&self) -> bool
         ensures { result ≡ is_waiting self.now }
     {
         self.resting.is_none()
     }
 
-    /// Does a command without steps, and hands the steps of any other to whichever board takes
-    /// them. Allocates all memory of the command. If that fails, the desk is as it was.
+    /// Does a command without steps, and returns its reply. The steps of any other command wait for
+    /// a board: then returns `Waiting`. Allocates all memory of the command. If that fails, the
+    /// desk is as it was.
     pub fn put(&mut self, command: Command) -> Result<Put, NoMemory>
         requires { IsResting self.old }
         ensures gives { IfOk result (λ put. PutGives self.old command put self.new) }
@@ -90,8 +91,8 @@ impl Desk {
         }
     }
 
-    /// Returns the reply to what was put, if it is finished. Then the desk has the machine again.
-    /// Returns `None` if it isn't finished, or if the desk doesn't wait.
+    /// Returns the reply to the command that was put, if the command is finished. Then the desk has
+    /// the machine again. Returns `None` if it isn't finished, or if the desk doesn't wait.
     pub fn try_collect(&mut self) -> Option<Reply>
         ensures { CollectGives self.old result self.new }
     {
@@ -118,7 +119,8 @@ impl Desk {
         }
     }
 
-    /// Waits for the reply to what was put, and returns it. `ask` calls it if a put waits.
+    /// Waits for the reply to the command that was put, and returns it. `ask` calls it if `put`
+    /// returns `Waiting`.
     pub fn wait<R: Wait>(&mut self, rt: &R) -> Reply
         requires { is_waiting self.old ≡ true }
         ensures { CollectGives self.old (Some result) self.new }
@@ -132,7 +134,8 @@ impl Desk {
         unreachable!()
     }
 
-    /// Sleeps while the word is as it was, unless what was asked is finished.
+    /// Sleeps until the user's word in the table changes. Returns at once if the command that was
+    /// put is finished.
     fn sleep<R: Wait>(&self, rt: &R) {
         let seen = self.table.shared.peek(self.row);
         if seen != steps::DONE {
@@ -143,7 +146,7 @@ impl Desk {
     }
 }
 
-/// Makes a desk with a machine, from a seat that has taken its slot.
+/// Makes the desk of a row with a machine. `seat` is its token, which has taken the row's slot.
 pub(crate) fn desk_of(table: Arc<HandTable>, seat: Token, row: usize, resting: Resting) -> Desk
     requires at { IsAt (arc_value table).shared.table_id (arc_value table).shared.key.users
         seat.table_id row }

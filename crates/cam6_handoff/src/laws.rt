@@ -1,12 +1,12 @@
 //! Laws of desks at the beginning. A law is the contract of a function that does nothing.
 ghost use Rattle.cam6_handoff.specs.Laws.{BlankDesksAreTheirUsers, BlankDesksRest};
 
-/// Each desk that `boot` makes may be asked.
+/// Each desk that `boot` makes has its machine, and waits for no reply.
 pub fn blank_desks_rest()
     ensures law { BlankDesksRest }
 {}
 
-/// Each desk that `boot` makes is its user's.
+/// Each desk that `boot` makes is that of its own user.
 pub fn blank_desks_are_their_users()
     ensures law { BlankDesksAreTheirUsers }
 {}

@@ -15,13 +15,14 @@ pub(crate) struct FillPermit {
     expensive: AtomicU32,
 }
 
-/// The bit of a row. There is one for each user, since there are at most 32 (`MAX_USERS`).
+/// Returns a word in which only the row's bit is 1. There is a bit for each user, since there are
+/// at most 32 (`MAX_USERS`).
 fn bit_of(row: usize) -> u32 {
     1u32.wrapping_shl((row % 32) as u32)
 }
 
 impl FillPermit {
-    /// The permit is free, and no user's command is known to have made many tables.
+    /// Makes a permit that no seat has. No user's command is known to have made many tables.
     pub fn new() -> FillPermit {
         FillPermit {
             next: Mutex::new(()),
@@ -30,29 +31,29 @@ impl FillPermit {
         }
     }
 
-    /// Takes the permit, unless another seat has it. Returns whether it did.
+    /// Takes the permit, unless another seat has it. Returns whether this seat has taken it.
     pub fn try_take(&self) -> bool {
         self.taken.fetch_or(1, Ordering::SeqCst) == 0
     }
 
-    /// Gives the permit back, which this seat has.
+    /// Frees the permit. This seat must have it.
     pub fn give_back(&self) {
         self.taken.store(0, Ordering::SeqCst);
     }
 
-    /// What `note` was told last of the row's user: whether a command makes many tables. False
-    /// before that.
+    /// Returns what `note` wrote last for the row's user: whether their command made many tables.
+    /// It is false before the first `note`.
     pub fn is_expensive(&self, row: usize) -> bool {
         self.expensive.load(Ordering::SeqCst) & bit_of(row) != 0
     }
 
-    /// Whether the command in a row must wait without a board. It must if a seat has the permit, and
-    /// `is_expensive` is true of the row.
+    /// Whether the command in a row must wait without a board: a seat has the permit, and the last
+    /// command of the row's user made many tables.
     pub fn holds_back(&self, row: usize) -> bool {
         self.taken.load(Ordering::SeqCst) != 0 && self.is_expensive(row)
     }
 
-    /// Notes whether a command of the row's user made many tables, or still has to.
+    /// Notes whether a command of the row's user made many tables, or still has to make many.
     pub fn note(&self, row: usize, is_expensive: bool) {
         let bit = bit_of(row);
         if is_expensive {

@@ -17,8 +17,8 @@ pub struct Queue {
 }
 
 impl Queue {
-    /// Whether the command of another user than `user`, counted from 1, waits for a board and may
-    /// have one. `None` is for the command of any user. A command may not have a board while a seat
+    /// Whether a command of another user than `user`, counted from 1, waits for a board and isn't
+    /// held back. With `None`, a command of any user counts. A command is held back while a seat
     /// makes many tables, if its user's last command made many.
     pub fn has_other(&self, user: Option<usize>) -> bool {
         for row in 0..self.users {
@@ -31,7 +31,7 @@ impl Queue {
     }
 }
 
-/// A look at a table of so many users.
+/// Makes a `Queue` that looks at the words of a table of so many users.
 pub(crate) fn queue_of(table: Arc<HandTable>, users: usize, permit: Arc<FillPermit>) -> Queue
     requires { (arc_value table).shared.table_id.words ≡ users }
 {

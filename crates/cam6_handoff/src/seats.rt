@@ -58,14 +58,14 @@ impl BoardSeat {
     ghost use Rattle.cam6_commands.specs.Limits.{max_users};
     ghost use Rattle.cam6_handoff.specs.Seats.{TakeGives, Accepts, AcceptsDone};
 
-    /// The board's number, counted from 0.
+    /// Returns the board's number, counted from 0.
     pub fn number(&self) -> u8
         ensures { result ≡ self.now.number }
     {
         self.board
     }
 
-    /// The number of users, who are numbered from 1.
+    /// Returns the number of users, who are numbered from 1.
     pub fn users(&self) -> usize
         ensures users { result ≡ self.now.users }
         ensures few { result ≤ max_users }
@@ -73,7 +73,8 @@ impl BoardSeat {
         self.users
     }
 
-    /// Returns a look at the commands that wait, for whatever decides when to preempt a board.
+    /// Makes a `Queue`, which tells whether other commands wait. Whoever decides when to preempt a
+    /// board needs it.
     pub fn queue(&self) -> Result<Queue, NoMemory> {
         let table = Arc::clone(&self.table)?;
         let permit = Arc::clone(&self.permit)?;
@@ -94,7 +95,7 @@ impl BoardSeat {
         Some(queued.lease(self.board))
     }
 
-    /// Gives the user's command back, to wait again.
+    /// Gives the user's command back to the table, to wait for a board again.
     pub fn put_back(&mut self, queued: Queued)
         requires { Accepts self.old.holds queued }
         ensures { self.new ≡ emptied self.old }
@@ -102,10 +103,10 @@ impl BoardSeat {
         let Some(row) = self.taken.take() else {
             unreachable!()
         };
-        steps::back(&self.table.shared, &mut self.seat, row, queued);
+        steps::give_back(&self.table.shared, &mut self.seat, row, queued);
     }
 
-    /// Gives what is finished to the user's desk, and wakes the desk.
+    /// Gives the finished command to the user's desk, and wakes the desk.
     pub fn put_done(&mut self, finished: Finished)
         requires { AcceptsDone self.old.holds finished }
         ensures { self.new ≡ emptied self.old }
@@ -113,10 +114,11 @@ impl BoardSeat {
         let Some(row) = self.taken.take() else {
             unreachable!()
         };
-        steps::done(&self.table.shared, &mut self.seat, row, finished);
+        steps::give_done(&self.table.shared, &mut self.seat, row, finished);
     }
 
-    /// Fills the tables that a lease needs, in the order of their uses, each through the cache.
+    /// Fills the tables that a lease needs, in the order of their uses. Copies what the cache has,
+    /// and caches what it lacks.
     pub fn fill(&mut self, lease: &Lease, cache: &mut TableCache)
         ensures tables { TablesFit lease.now.work self.new.tables }
         ensures others { self.new ≡ record self.old { tables = self.new.tables } }
@@ -128,8 +130,8 @@ impl BoardSeat {
     /// Fills the tables that a lease needs, each under the cache's lock, and returns true. After
     /// two that the cache lacked, the rest needs the permit to fill, cached or not. All need it if
     /// the user's last command made many. Returns false if another seat has the permit, or no
-    /// command was taken. The caller then puts the command back. It is held back while the permit is
-    /// taken.
+    /// command was taken. The caller then puts the command back. That command is held back while
+    /// the permit is taken.
     pub fn fill_each<R: Wait>(&mut self, rt: &R, lease: &Lease, cache: &Mutex<TableCache>) -> bool
         ensures tables { IsTrue result → TablesFit lease.now.work self.new.tables }
         ensures others { self.new ≡ record self.old { tables = self.new.tables } }
@@ -170,7 +172,7 @@ impl BoardSeat {
         self.permit.holds_back(user.row())
     }
 
-    /// The tables that were filled last.
+    /// Returns the tables, as they were filled last.
     pub fn tables(&self) -> &Tables
         ensures { result.now ≡ self.now.tables }
     {
@@ -178,9 +180,10 @@ impl BoardSeat {
     }
 }
 
-/// Fills the tables of a lease from an index on, each under the cache's lock, until the cache lacked
-/// `most` of them. Returns the index after them, and how many the cache lacked. A seat that waits for
-/// the lock has it before one that has already had it.
+/// Fills the tables of a lease from index `from` on, each under the cache's lock. Stops after
+/// `most` tables that the cache lacked. Returns the index after the last table filled, and how many
+/// tables the cache lacked. A seat that waits for the lock has it before one that has already had
+/// it.
 fn fill_at_most<R: Wait>(
     rt: &R,
     permit: &FillPermit,
@@ -212,7 +215,7 @@ fn fill_at_most<R: Wait>(
     (lease.needs(), lacked)
 }
 
-/// The seat of an idle board.
+/// Makes the seat of an idle board, which holds no command.
 pub(crate) fn seat_of(
     table: Arc<HandTable>,
     seat: Token,

@@ -41,7 +41,8 @@ impl Split<View> for BoardCut {
     ghost right = { new_board };
 }
 
-/// Cuts the seat of a row's desk from the first seat, and returns the desk with this machine.
+/// Splits the token of a row's desk off `first`, and takes the row's slot with it. Returns the desk
+/// with this machine.
 fn cut_desk(table: Arc<HandTable>, first: &mut Token, row: usize, resting: Resting) -> Desk
     requires of { IsFirstOf (arc_value table).shared.table_id
         (arc_value table).shared.key.users first.old.table_id }
@@ -56,7 +57,8 @@ fn cut_desk(table: Arc<HandTable>, first: &mut Token, row: usize, resting: Resti
     desk_of(table, seat, row, resting)
 }
 
-/// Cuts the next board's seat.
+/// Splits the token of the next board off `first`. Returns the board's seat, which holds no
+/// command.
 fn cut_board(
     table: Arc<HandTable>,
     first: &mut Token,
@@ -78,7 +80,8 @@ fn cut_board(
     seat_of(table, seat, board, users, filling, permit)
 }
 
-/// Cuts a desk for each user, with a blank machine of their limit.
+/// Splits a token off `first` for each user. Returns their desks, each with a blank machine of the
+/// user's limit.
 fn cut_desks(
     alloc: Global,
     table: &Arc<HandTable>,
@@ -98,7 +101,8 @@ fn cut_desks(
     Ok(desks)
 }
 
-/// Adds a desk for each user, with a blank machine of their limit.
+/// Adds a desk for each user to `desks`, with a blank machine of the user's limit. Splits their
+/// tokens off `first`.
 fn add_desks(
     alloc: Global,
     table: &Arc<HandTable>,
@@ -122,7 +126,7 @@ fn add_desks(
     Ok(())
 }
 
-/// Cuts the next desk, with a blank machine of this limit.
+/// Makes the next desk, with a blank machine of this limit. Splits its token off `first`.
 fn new_desk(
     alloc: Global,
     table: &Arc<HandTable>,
@@ -143,7 +147,7 @@ fn new_desk(
     Ok(cut_desk(table, first, row, resting))
 }
 
-/// Cuts a seat for each board.
+/// Splits a token off `first` for each board. Returns their seats.
 fn cut_seats(
     alloc: Global,
     table: &Arc<HandTable>,
@@ -164,7 +168,7 @@ fn cut_seats(
     Ok(seats)
 }
 
-/// Adds a seat for each board.
+/// Adds a seat for each board to `seats`. Splits their tokens off `first`.
 fn add_seats(
     alloc: Global,
     table: &Arc<HandTable>,
@@ -189,7 +193,7 @@ fn add_seats(
     Ok(())
 }
 
-/// Cuts the next board's seat, with tables of its own.
+/// Makes the next board's seat, and allocates its tables. Splits its token off `first`.
 fn new_seat(
     alloc: Global,
     table: &Arc<HandTable>,
@@ -212,7 +216,8 @@ fn new_seat(
     Ok(cut_board(table, first, users, board, filling, permit))
 }
 
-/// Cuts a desk for each user, and a seat for each board.
+/// Splits the tokens of all desks and seats off `first`. Returns a desk for each user, with a blank
+/// machine of the user's limit, and a seat for each board.
 fn cut(
     alloc: Global,
     table: &Arc<HandTable>,

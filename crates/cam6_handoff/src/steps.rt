@@ -67,7 +67,7 @@ impl Play<Option<Place>, View> for Sitting {
     ghost then = { SitTells };
 }
 
-/// A desk takes its slot for the first time.
+/// A desk takes the slot of its row for the first time.
 pub(crate) fn sit(table: &SharedTable, token: &mut Token, row: usize)
     requires at { IsAt table.now.table_id table.now.key.users token.old.table_id row }
     requires unseated { token.old.me ≡ (Unseated row, []) }
@@ -77,7 +77,7 @@ pub(crate) fn sit(table: &SharedTable, token: &mut Token, row: usize)
     table.load::<Sitting>(token, row);
 }
 
-/// A desk puts what is asked into its slot, to wait for a board.
+/// A desk puts the user's command into the slot, and sets the word so that it waits for a board.
 pub(crate) fn put(table: &SharedTable, token: &mut Token, row: usize, queued: Queued)
     requires at { IsAt table.now.table_id table.now.key.users token.old.table_id row }
     requires rests { token.old.me ≡ (Rests row, (row, None) ∷ []) }
@@ -90,7 +90,8 @@ pub(crate) fn put(table: &SharedTable, token: &mut Token, row: usize, queued: Qu
     prove!(found == MINE);
 }
 
-/// A desk takes what it asked for, if it is finished.
+/// A desk takes the finished command and the machine from the slot. Returns `None` if the command
+/// isn't finished.
 pub(crate) fn collect(table: &SharedTable, token: &mut Token, row: usize) -> Option<Finished>
     requires at { IsAt table.now.table_id table.now.key.users token.old.table_id row }
     requires waits { (asked : StoredQueued) × (token.old.me ≡ (Waits row asked, [])) }
@@ -112,7 +113,8 @@ pub(crate) fn collect(table: &SharedTable, token: &mut Token, row: usize) -> Opt
     }
 }
 
-/// A board takes the user's place, if it waits there.
+/// A board takes the command from the slot of the user of this row. Returns `None` if no command
+/// waits there.
 pub(crate) fn take(table: &SharedTable, token: &mut Token, row: usize, board: u8) -> Option<Queued>
     requires at { IsAt table.now.table_id table.now.key.users token.old.table_id row }
     requires idle { token.old.me ≡ (Idle board, []) }
@@ -133,8 +135,8 @@ pub(crate) fn take(table: &SharedTable, token: &mut Token, row: usize, board: u8
     }
 }
 
-/// A board gives a place back, to wait again.
-pub(crate) fn back(table: &SharedTable, token: &mut Token, row: usize, queued: Queued)
+/// A board gives the command back to the slot of the user of this row, to wait for a board again.
+pub(crate) fn give_back(table: &SharedTable, token: &mut Token, row: usize, queued: Queued)
     requires at { IsAt table.now.table_id table.now.key.users token.old.table_id row }
     requires holds { (b : ℕ) × (q : StoredQueued)
         × (token.old.me ≡ (Holds b row q, (row, None) ∷ [])) }
@@ -149,8 +151,8 @@ pub(crate) fn back(table: &SharedTable, token: &mut Token, row: usize, queued: Q
     table.swap::<GivingBack>(token, row, READY);
 }
 
-/// A board gives what is finished, and wakes the desk.
-pub(crate) fn done(table: &SharedTable, token: &mut Token, row: usize, finished: Finished)
+/// A board gives the finished command to the user of this row, and wakes the user's desk.
+pub(crate) fn give_done(table: &SharedTable, token: &mut Token, row: usize, finished: Finished)
     requires at { IsAt table.now.table_id table.now.key.users token.old.table_id row }
     requires holds { (b : ℕ) × (q : StoredQueued)
         × (token.old.me ≡ (Holds b row q, (row, None) ∷ [])) }

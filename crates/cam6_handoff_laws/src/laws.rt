@@ -6,57 +6,58 @@ ghost use Rattle.cam6_handoff_laws.specs.Laws.{CollectIsCollect, LookIsNoEvent, 
 ghost use Rattle.cam6_handoff_laws.specs.Threads.{ActionIsEvents, BeginsAtFresh, ExecutionIsEvents};
 ghost use Rattle.cam6_handoff_laws.specs.Threads.{DesksGiveTheReplies, CollectedIsGiven, TakenPlaceStands};
 
-/// A user's status is that of the word that says where the user is.
+/// If a row's word means where its user is, the status of the word is the user's status.
 pub fn a_word_is_a_status()
     ensures law { WordIsStatus }
 {}
 
-/// The word of each row of the table's rule says where the row's user is.
+/// The word of each row means where the row's user is, if the table keeps its rule.
 pub fn a_row_is_said()
     ensures law { RowIsSaid }
 {}
 
-/// A command with bands that is put at a desk is asked.
+/// If a desk puts a command with bands, that is the event `ask`.
 pub fn a_put_is_an_ask()
     ensures law { PutIsAsk }
 {}
 
-/// A command that a board's seat takes is leased.
+/// If a board's seat takes a command, that is the event `lease`.
 pub fn a_take_is_a_lease()
     ensures law { TakeIsLease }
 {}
 
-/// A place that is put back as it is taken off its board is preempted.
+/// If a seat puts a command back with the bands that are done, that is the event `preempt`.
 pub fn a_place_put_back_is_a_preempt()
     ensures law { BackIsPreempt }
 {}
 
-/// A place that is put back from its home was on a board that failed.
+/// If a seat puts a command back from its image at home, that is the event `fail` of its board.
 pub fn a_place_put_back_from_its_home_is_a_fail()
     ensures law { BackFromHomeIsFail }
 {}
 
-/// What is put as done has had its last band, which frees the board.
+/// If a seat puts a command as done, that is the event `band` of its last band, which frees the
+/// board.
 pub fn what_is_put_as_done_is_the_last_band()
     ensures law { DoneIsLastBand }
 {}
 
-/// What a desk collects is collected.
+/// If a desk collects a finished command, that is the event `collect`.
 pub fn a_collect_is_a_collect()
     ensures law { CollectIsCollect }
 {}
 
-/// A look that finds another word is no event.
+/// A take or a collect that finds another word changes nothing, and is no event.
 pub fn a_look_is_no_event()
     ensures law { LookIsNoEvent }
 {}
 
-/// The first take of a desk's slot is no event.
+/// If a desk takes its slot for the first time, that is no event: the user rests as before.
 pub fn a_first_take_is_no_event()
     ensures law { FirstTakeIsNoEvent }
 {}
 
-/// An action of threads that are where a model of the core is, is the action's events.
+/// If threads are where a model of the core is, an action of a thread is the action's events.
 pub fn an_action_is_its_events()
     ensures law { ActionIsEvents }
 {}

@@ -16,7 +16,7 @@ ghost use Rattle.std.specs.Prelude.{◌≡◌, MatchOption};
 ghost use Rattle.std.specs.Process.{exit_status};
 ghost use Rattle.cam6_cli.specs.Statuses.{failure, fault as fault_told};
 
-use cam6_arguments::{NO_MEMORY, Program, Refused, failed, refuse, words_given};
+use cam6_arguments::{NO_MEMORY, Program, Refused, read_arguments, refuse, report_failure};
 use cam6_cli::{Options, Sharing, failure_of, fault_of, options, replay_streams, serve_streams};
 use cam6_planes::Side;
 use cam6_server::{Fault, Handle, Serving, serve_net};
@@ -65,7 +65,7 @@ where
 
 /// Returns what the arguments ask for, or why they are refused.
 fn options_given<R: Env + AllocGlobal>(rt: &R) -> Result<Options, Refused> {
-    let words = words_given(rt, Program::Cam6)?;
+    let words = read_arguments(rt, Program::Cam6)?;
     options(rt.alloc(), words.as_slice())
 }
 
@@ -85,7 +85,7 @@ where
     let input = rt.reader();
     greet(rt, &input, COMMANDS_ARE_TYPED);
     let Ok(mut reader) = BufReader::new(rt.alloc(), input) else {
-        return failed(rt, NO_MEMORY, Program::Cam6.no_memory());
+        return report_failure(rt, NO_MEMORY, Program::Cam6.no_memory());
     };
     let end = serve_streams(rt.alloc(), limit, &mut reader, &mut io::writer(rt));
     ended(rt, end)
@@ -103,7 +103,7 @@ where
     let input = rt.reader();
     greet(rt, &input, EVENTS_ARE_TYPED);
     let Ok(mut reader) = BufReader::new(rt.alloc(), input) else {
-        return failed(rt, NO_MEMORY, Program::Cam6.no_memory());
+        return report_failure(rt, NO_MEMORY, Program::Cam6.no_memory());
     };
     let end = replay_streams(rt.alloc(), sharing, limit, &mut reader, &mut io::writer(rt));
     ended(rt, end)
@@ -129,7 +129,7 @@ fn closed(rt: &impl Eprint, fault: Fault) -> ExitCode
     ensures { exit_status result ≡ (fault_told fault).0 }
 {
     let (status, text) = fault_of(fault);
-    failed(rt, status, text)
+    report_failure(rt, status, text)
 }
 
 /// Returns the exit status of a session, which is 0 if all lines were answered. If it failed,
@@ -139,7 +139,7 @@ fn ended(rt: &impl Eprint, end: End) -> ExitCode
         (λ told. exit_status result ≡ told.0) }
 {
     match failure_of(end) {
-        Some((status, text)) => failed(rt, status, text),
+        Some((status, text)) => report_failure(rt, status, text),
         None => ExitCode::SUCCESS,
     }
 }

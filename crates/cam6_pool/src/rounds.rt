@@ -19,7 +19,7 @@ pub(crate) struct Round {
 }
 
 impl Round {
-    /// A round that begins at user 1.
+    /// Makes a round that begins at user 1. `seat` is the board's.
     pub(crate) fn new(seat: BoardSeat) -> Round
         ensures { result ≡ record { seat = seat; row = 0; passed = 0 } }
     {
@@ -44,8 +44,8 @@ impl Round {
         usize::from(self.passed) >= self.seat.users()
     }
 
-    /// Takes the command of the user in turn if it waits and isn't held back. If not, passes over
-    /// this user.
+    /// Takes the command of the next user of the round, if it waits and isn't held back, and
+    /// returns it. If not, passes over this user and returns `None`.
     pub(crate) fn look(&mut self) -> Option<(User, Lease, Job)>
         requires idle { IsIdle self.old.seat }
         requires more { self.old.passed < self.old.seat.users }

@@ -27,7 +27,7 @@ struct Slice {
     heard: u64,
 }
 
-/// The time from one moment to another, if the clock gave both.
+/// Returns the time from one moment to another, or `None` if the clock failed at one of them.
 fn between(from: Option<Instant>, to: Option<Instant>) -> Option<Duration> {
     match (from, to) {
         (Some(from), Some(to)) => Some(to.saturating_duration_since(from)),
@@ -36,7 +36,7 @@ fn between(from: Option<Instant>, to: Option<Instant>) -> Option<Duration> {
 }
 
 impl Slice {
-    /// A board without a command, whose worker has not asked yet.
+    /// Makes the slice of a board without a command, whose worker has not asked yet.
     fn new() -> Slice {
         Slice {
             user: None,
@@ -46,10 +46,10 @@ impl Slice {
         }
     }
 
-    /// Notes that the worker asks for a band. Returns true at the first band of a step if the
-    /// user's command has had its time, or if the clock fails. Returns false if the user is another
-    /// one than before. The time then began when the worker asked last, since the tables were
-    /// filled after that.
+    /// Notes that the worker asks for a band of this user's command. Returns whether the command
+    /// has had its time, or the clock fails: true only at the first band of a step. Returns false
+    /// for another user than before. Their time began when the worker asked last, since the tables
+    /// were filled after that.
     fn ask(&mut self, user: u8, band: u8, now: Option<Instant>) -> bool {
         let last = self.asked;
         self.asked = now;
@@ -62,8 +62,8 @@ impl Slice {
         band == 0 && between(self.began, now).is_none_or(|had| had >= slice)
     }
 
-    /// Notes that the board has no command. The time of the next one begins at `now`.
-    fn free(&mut self, now: Option<Instant>) {
+    /// Notes that the board has no command. The time of the next command begins at `now`.
+    fn note_idle(&mut self, now: Option<Instant>) {
         self.user = None;
         self.asked = now;
     }
@@ -88,7 +88,7 @@ pub struct SlicingGate<R> {
 }
 
 impl<R: Wait + Clock + Drop> SlicingGate<R> {
-    /// A gate for the boards of a table, numbered from 0.
+    /// Makes a gate for so many boards of a table. Boards are numbered from 0.
     pub fn new(alloc: Global, rt: R, queue: Queue, boards: u8) -> Result<SlicingGate<R>, NoMemory> {
         let mut slices = Vec::with_capacity(alloc, usize::from(boards))?;
         for _ in 0..boards {
@@ -104,8 +104,8 @@ impl<R: Wait + Clock + Drop> SlicingGate<R> {
         })
     }
 
-    /// Wakes one board that sleeps, since a command was put. A board that is awake doesn't sleep
-    /// when it is idle next.
+    /// Wakes one board that sleeps, since a command was put. If no board sleeps, the next one that
+    /// would sleep doesn't.
     pub fn ring(&self) -> Rung {
         let mut rings = self.bell.lock(&self.rt);
         *rings = rings.wrapping_add(1);
@@ -122,13 +122,13 @@ impl<R: Wait + Clock + Drop> SlicingGate<R> {
         self.rung.notify_all();
     }
 
-    /// The time, or `None` if the clock gives none.
+    /// Returns the time, or `None` if the clock gives none.
     fn now(&self) -> Option<Instant> {
         Instant::now(&self.rt).ok()
     }
 
-    /// Sleeps until the number of rings isn't `heard`, for 100 milliseconds at most. Returns the
-    /// number of rings.
+    /// Sleeps until the number of rings differs from `heard`, for 100 milliseconds at most. Returns
+    /// the number of rings.
     fn sleep_until_rung(&self, heard: u64) -> u64 {
         let poll = Duration::from_millis(POLL);
         let bell = self.bell.lock(&self.rt);
@@ -175,7 +175,7 @@ impl<R: Wait + Clock + Drop> Gate for SlicingGate<R> {
         if !self.queue.has_other(None) {
             slice.heard = self.sleep_until_rung(slice.heard);
         }
-        slice.free(self.now());
+        slice.note_idle(self.now());
         !self.stopping.load(Ordering::SeqCst)
     }
 }

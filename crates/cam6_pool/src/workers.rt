@@ -28,13 +28,13 @@ pub enum Ended {
     Dead,
 }
 
-/// The number of the band that the board does next in its step, counted from 0.
+/// Returns the number of the band that the board does next in its step, counted from 0.
 fn next_band<B: Board>(station: &Station<B>) -> u8 {
     let rows = station.rows().unwrap_or(0);
     u8::try_from(rows / BAND as u16).unwrap_or(u8::MAX)
 }
 
-/// Takes the command off the board: it waits again.
+/// Takes the command off the board, and gives it back to wait for a board again.
 fn preempt<B: Board>(seat: &mut BoardSeat, station: &mut Station<B>)
     requires loaded { IsLoaded station.old.at }
     requires serves { Serves seat.old.holds station.old.at }
@@ -47,9 +47,10 @@ fn preempt<B: Board>(seat: &mut BoardSeat, station: &mut Station<B>)
     }
 }
 
-/// Does what the gate wants next: a band, or the command comes off the board. What is finished is put
-/// as done, and what is lost waits again. Returns whether the gate stops the worker.
-fn go_on<B: Board, G: Gate>(
+/// Asks the gate for its verdict, and follows it: does a band, or takes the command off the board.
+/// Gives a finished command to its desk. Gives a command whose image was lost back to wait. Returns
+/// whether the gate stops the worker.
+fn follow_gate<B: Board, G: Gate>(
     seat: &mut BoardSeat,
     station: &mut Station<B>,
     user: User,
@@ -80,8 +81,8 @@ fn go_on<B: Board, G: Gate>(
     }
 }
 
-/// Serves a lease until it is put back or put as done. The seat has filled its tables. Returns whether
-/// the gate stopped the worker.
+/// Does bands of a lease until the command is finished or given back. The seat has filled its
+/// tables. Returns whether the gate stopped the worker.
 fn serve_lease<B: Board, G: Gate>(
     seat: &mut BoardSeat,
     station: &mut Station<B>,
@@ -103,12 +104,12 @@ fn serve_lease<B: Board, G: Gate>(
     }
     let mut stops = false;
     while station.is_loaded() {
-        stops = go_on(seat, station, user, gate);
+        stops = follow_gate(seat, station, user, gate);
     }
     stops
 }
 
-/// Gives a command back that was taken and not begun: it waits again.
+/// Gives a command back that was taken and not begun. It waits for a board again.
 fn give_back(seat: &mut BoardSeat, lease: Lease, job: Job)
     requires seat { Carries seat.old.holds lease job }
     ensures seat { seat.new ≡ emptied seat.old }

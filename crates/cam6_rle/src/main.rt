@@ -12,7 +12,7 @@
 ghost use Rattle.std.specs.Prelude.{◌≡◌};
 ghost use Rattle.std.specs.Process.{exit_status};
 
-use cam6_arguments::{NO_MEMORY, Program, Refused, failed, refuse, words_given};
+use cam6_arguments::{NO_MEMORY, Program, Refused, read_arguments, refuse, report_failure};
 use cam6_draw_cli::{BAD_INPUT, Place, RleOptions, fault_text, options_of_rle, report_end};
 use cam6_patterns::{Pattern, PatternFault, PatternTexts, Unread, read_pattern, write_placed};
 use cam6_show_frames::{End, Unshown, show_frames};
@@ -37,7 +37,7 @@ fn run<R: Env + Input + Print + Eprint + AllocGlobal>(rt: &R) -> ExitCode {
 
 /// Reads the program's arguments. Returns its task, or why the arguments are refused.
 fn options_given<R: Env + AllocGlobal>(rt: &R) -> Result<RleOptions, Refused> {
-    let words = words_given(rt, Program::Rle)?;
+    let words = read_arguments(rt, Program::Rle)?;
     options_of_rle(rt.alloc(), words.as_slice())
 }
 
@@ -86,8 +86,8 @@ fn report_fault<R: Eprint + AllocGlobal>(rt: &R, fault: PatternFault) -> ExitCod
     ensures { exit_status result ≡ 3 }
 {
     match fault_text(rt.alloc(), fault) {
-        Ok(text) => failed(rt, BAD_INPUT, text.as_str()),
-        Err(_) => failed(rt, BAD_INPUT, Program::Rle.no_memory_to_say_why()),
+        Ok(text) => report_failure(rt, BAD_INPUT, text.as_str()),
+        Err(_) => report_failure(rt, BAD_INPUT, Program::Rle.no_memory_to_say_why()),
     }
 }
 
@@ -96,7 +96,7 @@ fn report_fault<R: Eprint + AllocGlobal>(rt: &R, fault: PatternFault) -> ExitCod
 fn gather_patterns<R: Input + Print + Eprint + AllocGlobal>(rt: &R, rule: String) -> ExitCode {
     let alloc = rt.alloc();
     let Ok(mut reader) = BufReader::new(alloc, rt.reader()) else {
-        return failed(rt, NO_MEMORY, Program::Rle.no_memory());
+        return report_failure(rt, NO_MEMORY, Program::Rle.no_memory());
     };
     let mut screen = PatternTexts::new(alloc, io::writer(rt), rule);
     let end = show_frames(alloc, &mut reader, &mut screen);

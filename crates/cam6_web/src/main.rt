@@ -29,7 +29,7 @@ ghost use Rattle.std.specs.Prelude.{◌≡◌};
 ghost use Rattle.std.specs.Process.{exit_status};
 ghost use Rattle.cam6_web_cli.specs.Statuses.{fault as fault_told};
 
-use cam6_arguments::{Program, Refused, failed, refuse, words_given};
+use cam6_arguments::{Program, Refused, read_arguments, refuse, report_failure};
 use cam6_web_cli::{Fault, Options, fault_of, options_of_web};
 use servers::serve_pages;
 use states::Handle;
@@ -61,7 +61,7 @@ fn run<
 
 /// Reads the program's arguments. Returns its options, or why the arguments are refused.
 fn options_given<R: Env + AllocGlobal>(rt: &R) -> Result<Options, Refused> {
-    let words = words_given(rt, Program::Web)?;
+    let words = read_arguments(rt, Program::Web)?;
     options_of_web(rt.alloc(), words.as_slice())
 }
 
@@ -86,5 +86,5 @@ fn report_fault(rt: &impl Eprint, fault: Fault) -> ExitCode
     ensures { exit_status result ≡ (fault_told fault).0 }
 {
     let (status, text) = fault_of(fault);
-    failed(rt, status, text)
+    report_failure(rt, status, text)
 }

@@ -14,7 +14,8 @@ ghost use Rattle.cam6_web_cli.specs.Words.{AreOptions, asked_with};
 use crate::options::{Options, Unsaid};
 use crate::values::{Unaddressed, addresses_by, copied_by, side_by};
 use cam6_arguments::{
-    MAX_PORT, Program, Refused, named, number_by, refusal, text_at, texts_at, unasked, value_option,
+    MAX_PORT, Program, Refused, new_command, number_or_default, refusal, refusal_of_text, text_at,
+    texts_at, value_option,
 };
 use cam6_planes::Side;
 use clap::{Arg, ArgAction, ArgMatches, Command};
@@ -79,7 +80,7 @@ fn read_matches(alloc: Global, matches: &ArgMatches<'_>) -> Result<Options, Refu
 fn refuse_value(alloc: Global, unsaid: Unsaid) -> Refused
     ensures { IsRefusal result }
 {
-    unasked(format!(in alloc; "cam6_web: {unsaid}\n"))
+    refusal_of_text(format!(in alloc; "cam6_web: {unsaid}\n"))
 }
 
 /// Returns the options with these numbers, and the words at `--host` and at `--name`. Refuses them
@@ -130,10 +131,10 @@ fn numbers_asked(matches: &ArgMatches<'_>) -> Result<Numbers, Unsaid>
     ensures { result_ok result ≡ numbers_at (rows_of (found_of matches.now)) }
 {
     collect_numbers(
-        number_by(text_at(matches, "port"), 1, MAX_PORT, 6_007),
-        number_by(text_at(matches, "connections"), 1, MAX_CONNECTIONS, 64),
+        number_or_default(text_at(matches, "port"), 1, MAX_PORT, 6_007),
+        number_or_default(text_at(matches, "connections"), 1, MAX_CONNECTIONS, 64),
         side_by(text_at(matches, "side")),
-        number_by(text_at(matches, "requests"), 0, u64::MAX, 0),
+        number_or_default(text_at(matches, "requests"), 0, u64::MAX, 0),
     )
 }
 
@@ -173,7 +174,7 @@ fn program<'a>(alloc: Global) -> Result<Command<'a>, AllocError>
     ensures { IfOk result (λ command. app_of command ≡ program_of) }
 {
     let about = "Serves the page of a CAM-6 cellular automata machine to browsers on this machine";
-    named(alloc, Program::Web, about, HELP)
+    new_command(alloc, Program::Web, about, HELP)
         .arg(port_option(alloc))?
         .arg(host_option(alloc))?
         .arg(name_option(alloc))?

@@ -7,8 +7,8 @@ use std::io::Write;
 #[derive(Clone, Copy, Debug, PartialEq, Eq)]
 pub struct WriteFault;
 
-/// Writes a line that ends with its LF, in one write if the writer takes it whole, and flushes.
-/// Adds no LF.
+/// Writes a line, which has to end with an LF already, and flushes. It is one write if the writer
+/// takes the line whole.
 pub fn send<W: Write>(writer: &mut W, line: &[u8]) -> Result<(), WriteFault>
     ensures { WritesFront result (W.contents writer.old) (W.contents writer.new) line.now }
 {
@@ -19,7 +19,8 @@ pub fn send<W: Write>(writer: &mut W, line: &[u8]) -> Result<(), WriteFault>
     }
 }
 
-/// Writes the bytes, in as many writes as it takes. A write that takes none is a fault.
+/// Writes all of the bytes, in as many writes as the writer needs. A write that takes no byte is a
+/// fault.
 pub fn write_bytes<W: Write>(writer: &mut W, bytes: &[u8]) -> Result<(), WriteFault>
     ensures { WritesFront result (W.contents writer.old) (W.contents writer.new) bytes.now }
 {

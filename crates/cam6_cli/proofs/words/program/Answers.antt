@@ -16,7 +16,7 @@ returns c =
     of_alone.2 in
     let one = c.in_ok-subcommand.ensures.shape (has_no_globals _ _ alone refl)
     ∙ ap₂ with_subcommand
-    c.named.ensures (ap (λ a. a.top) alone) in
+    c.new_command.ensures (ap (λ a. a.top) alone) in
     let two = c.in_ok-subcommand-2.ensures.shape (has_no_globals _ _ of_replay.2 refl)
     ∙ ap₂ with_subcommand one (ap (λ a. a.top) of_replay.2) in
     IfOk-weaker c.subcommand-3.result _ _ (λ command adds. (

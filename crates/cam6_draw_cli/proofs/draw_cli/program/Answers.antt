@@ -8,7 +8,7 @@ pub returns : goal.returns
 unfolding program
 returns c =
     let ppm = c.in_ok-arg.ensures.shape c.ppm_option.ensures.global
-    ∙ ap₂ with_rule c.named.ensures c.ppm_option.ensures.rule in
+    ∙ ap₂ with_rule c.new_command.ensures c.ppm_option.ensures.rule in
     let text = c.in_ok-arg-2.ensures.shape c.text_option.ensures.global
     ∙ ap₂ with_rule ppm c.text_option.ensures.rule in
     let scale = c.in_ok-arg-3.ensures.shape c.scale_option.ensures.global

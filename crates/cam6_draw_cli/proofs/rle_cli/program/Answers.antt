@@ -7,7 +7,7 @@ pub returns : goal.returns
 returns c =
     let sides = c.side_option.ensures.rule in
     let side = c.in_ok-arg.ensures.shape c.side_option.ensures.global
-    ∙ ap₂ with_rule c.named.ensures sides.2 in
+    ∙ ap₂ with_rule c.new_command.ensures sides.2 in
     let column = c.in_ok-arg-2.ensures.shape c.move_option.ensures.global
     ∙ ap₂ with_rule side c.move_option.ensures.rule in
     let row = c.in_ok-arg-3.ensures.shape c.move_option-2.ensures.global

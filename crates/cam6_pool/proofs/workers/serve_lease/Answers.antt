@@ -14,12 +14,12 @@ loop-stops-init g c = record {
 
 pub loop-stops-preserved : goal.loop-stops-preserved
 loop-stops-preserved g c =
-    let next = on_and_on c.args.seat.now c.loop-stops.seat c.go_on-stops.new.seat c.args.station.now
-    c.loop-stops.station c.go_on-stops.new.station c.loop-stops.invariant.on in
+    let next = on_and_on c.args.seat.now c.loop-stops.seat c.follow_gate-stops.new.seat c.args.station.now
+    c.loop-stops.station c.follow_gate-stops.new.station c.loop-stops.invariant.on in
     record { on = search rules }
 
-pub go_on-stops-requires-clause-loaded : goal.go_on-stops-requires-clause-loaded
-go_on-stops-requires-clause-loaded g c =
+pub follow_gate-stops-requires-clause-loaded : goal.follow_gate-stops-requires-clause-loaded
+follow_gate-stops-requires-clause-loaded g c =
     let loaded = is_loaded_then c.loop-stops.station.at in
     search rules
 

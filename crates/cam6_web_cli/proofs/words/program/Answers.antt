@@ -8,7 +8,7 @@ pub returns : goal.returns
 unfolding program
 returns c =
     let port = c.in_ok-arg.ensures.shape c.port_option.ensures.global
-    ∙ ap₂ with_rule c.named.ensures c.port_option.ensures.rule in
+    ∙ ap₂ with_rule c.new_command.ensures c.port_option.ensures.rule in
     let host = c.in_ok-arg-2.ensures.shape c.host_option.ensures.global
     ∙ ap₂ with_rule port c.host_option.ensures.rule in
     let name = c.in_ok-arg-3.ensures.shape c.name_option.ensures.global

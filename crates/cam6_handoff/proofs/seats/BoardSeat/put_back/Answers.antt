@@ -5,40 +5,40 @@ use Rattle.cam6_handoff.specs.Internal.Tokens.{board_stance, TakenToken}
 use Rattle.cam6_handoff.proofs.Tokens.{held, accepts_at}
 use Rattle.cam6_handoff.proofs.seats.BoardSeat.put_back.Goals as goal
 
-pub back-requires-clause-at : goal.back-requires-clause-at
-back-requires-clause-at c =
+pub give_back-requires-clause-at : goal.give_back-requires-clause-at
+give_back-requires-clause-at c =
     let h = held _ _ _ _ _ _ c.self.invariant.4 c.take.ensures.value c.in-Some.is in
     let within = h.0 in
     search rules
 
-pub back-requires-clause-holds : goal.back-requires-clause-holds
-back-requires-clause-holds c =
+pub give_back-requires-clause-holds : goal.give_back-requires-clause-holds
+give_back-requires-clause-holds c =
     let h = held _ _ _ _ _ _ c.self.invariant.4 c.take.ensures.value c.in-Some.is in
     (c.self.inside.board, h.1.0, h.1.1)
 
-pub back-requires-clause-stands : goal.back-requires-clause-stands
-back-requires-clause-stands c =
+pub give_back-requires-clause-stands : goal.give_back-requires-clause-stands
+give_back-requires-clause-stands c =
     accepts_at c.in-Some.row c.args.self.now.holds c.args.queued c.self.inside.seat.me
     (ap (λ (z : BoardStance). z.holds) (sym c.self.view_is)) c.requires
 
 pub invariant_of-self : goal.invariant_of-self
 invariant_of-self c =
     let h = held _ _ _ _ _ _ c.self.invariant.4 c.take.ensures.value c.in-Some.is in
-    let e = c.back.ensures.idle c.self.inside.board h.1.0 h.1.1 in
+    let e = c.give_back.ensures.idle c.self.inside.board h.1.0 h.1.1 in
     let i = c.self.invariant in (
-      c.back.ensures.at.0 ∙ ap (λ t. t.shared.table_id) c.deref.ensures,
+      c.give_back.ensures.at.0 ∙ ap (λ t. t.shared.table_id) c.deref.ensures,
       i.1,
       i.2,
       i.3,
       subst (λ (t : Option ℕ). TakenToken c.self.inside.users c.self.inside.board t
-          c.back.new.token.me) (sym c.take.ensures.after) e,
+          c.give_back.new.token.me) (sym c.take.ensures.after) e,
       i.5,
     )
 
 pub returns : goal.returns
 returns c =
     let h = held _ _ _ _ _ _ c.self.invariant.4 c.take.ensures.value c.in-Some.is in
-    let e = c.back.ensures.idle c.self.inside.board h.1.0 h.1.1 in
+    let e = c.give_back.ensures.idle c.self.inside.board h.1.0 h.1.1 in
     ap (λ (m : Seated). board_stance c.self.inside.board c.self.inside.users c.self.inside.filling
     m.0) e ∙
     ap emptied c.self.view_is

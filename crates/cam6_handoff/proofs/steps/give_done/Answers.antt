@@ -5,7 +5,7 @@ use Rattle.cam6_slot.specs.declared.resting.Place.TheVariants.{Finished}
 use Rattle.cam6_handoff.specs.Rule.{Rule, Seated, asked_machine, asked_command}
 use Rattle.cam6_handoff.specs.Steps.{DoneTells}
 use Rattle.cam6_handoff.proofs.Keeps.{finishes}
-use Rattle.cam6_handoff.proofs.steps.done.Goals as goal
+use Rattle.cam6_handoff.proofs.steps.give_done.Goals as goal
 
 pub swap-requires : goal.swap-requires
 swap-requires c = let users : ℕ = c.args.table.now.key.users in let slots : ℕ =

@@ -2,7 +2,7 @@ use Rattle.std.proofs.Common.{refl, ap}
 use Rattle.cam6_station.specs.Held.{is_loaded}
 use Rattle.cam6_pool.proofs.Going.{goes_on, free, failed, more_rises, none_left, fewer_left}
 use Rattle.cam6_pool.proofs.Serving.{serves_after, accepts_done, accepts_lost}
-use Rattle.cam6_pool.proofs.workers.go_on.Goals as goal
+use Rattle.cam6_pool.proofs.workers.follow_gate.Goals as goal
 
 pub put_done-requires : goal.put_done-requires
 put_done-requires g c =

@@ -2,7 +2,7 @@ use Rattle.std.proofs.Common.{◌∙◌, ap}
 use Rattle.clap.specs.Simple.{app_of_fields}
 use Rattle.clap.specs.Words.{new_app}
 use Rattle.cam6_arguments.specs.Options.{with_version}
-use Rattle.cam6_arguments.proofs.options.named.Goals as goal
+use Rattle.cam6_arguments.proofs.options.new_command.Goals as goal
 
 pub returns : goal.returns
 returns c =

@@ -5,7 +5,7 @@ use Rattle.cam6_slot.specs.declared.resting.Place.TheVariants.{Queued}
 use Rattle.cam6_handoff.specs.Rule.{Rule, Seated, asked_machine, asked_command}
 use Rattle.cam6_handoff.specs.Steps.{BackTells}
 use Rattle.cam6_handoff.proofs.Keeps.{backs}
-use Rattle.cam6_handoff.proofs.steps.back.Goals as goal
+use Rattle.cam6_handoff.proofs.steps.give_back.Goals as goal
 
 pub swap-requires : goal.swap-requires
 swap-requires c = let users : ℕ = c.args.table.now.key.users in let slots : ℕ =
