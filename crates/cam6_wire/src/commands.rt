@@ -25,7 +25,7 @@ use cam6_commands::{Command, NamedRule, Text};
 use serde_json::{Category, Value};
 use std::alloc::{AllocError, Global};
 
-/// Returns the command that a line says, or its fault.
+/// Returns the command that a line is read as, or the line's fault.
 pub fn read_command(alloc: Global, line: &[u8]) -> Result<Command, LineFault>
     ensures said { IsSaid result (command line.now) }
     // An empty line and one that is too long take no memory.
@@ -44,8 +44,8 @@ pub fn read_command(alloc: Global, line: &[u8]) -> Result<Command, LineFault>
     Ok(command)
 }
 
-/// Whether a line that says this command is spelled as it may be. A load has one spelling in each
-/// version, and any other command has many.
+/// Whether a line that is read as this command has an allowed spelling. A load has one spelling in
+/// each version, and any other command has many.
 fn is_spelled(alloc: Global, line: &[u8], command: &Command) -> Result<bool, AllocError>
     ensures { IfOk result (λ is. is ≡ is_spelled line.now command.now) }
 {
@@ -55,7 +55,8 @@ fn is_spelled(alloc: Global, line: &[u8], command: &Command) -> Result<bool, All
     }
 }
 
-/// The JSON value that a line is, unless the line is too long.
+/// Returns the JSON value that a line is. Returns a fault if the line is too long, or is no JSON
+/// value.
 pub(crate) fn line_value(alloc: Global, line: &[u8]) -> Result<Value, LineFault>
     ensures value { IfOk result (λ value. (length line.now ≤ limit_of line.now)
         × (value_of line.now ≡ Some (view value))) }
@@ -76,8 +77,8 @@ pub(crate) fn line_value(alloc: Global, line: &[u8]) -> Result<Value, LineFault>
     }
 }
 
-/// Returns the command that a line's JSON value shows, a load or any other. Returns `None` if there is
-/// no such word, or the value's other members are not those of the word.
+/// Returns the command that a JSON value stands for, a load or any other. Returns `None` if `do`
+/// has no command's word, or if the value's other members are not those of the word.
 fn command_in(alloc: Global, value: &Value) -> Result<Option<Command>, AllocError>
     ensures { IfOk result (λ command. command ≡ command_in (view value.now)) }
 {
@@ -87,10 +88,11 @@ fn command_in(alloc: Global, value: &Value) -> Result<Option<Command>, AllocErro
     if word == "load" {
         return load_of(alloc, value);
     }
-    by_word(alloc, word, value)
+    command_by_word(alloc, word, value)
 }
 
-/// The command of an object of `do` and `machine`, and no other member.
+/// Returns the load of an object of `do` and `machine`. Returns `None` if there is another member,
+/// or `machine` is no saved machine.
 #[tactic(auto, unfolding(crate::specs::Commands::load_of))]
 fn load_of(alloc: Global, value: &Value) -> Result<Option<Command>, AllocError>
     ensures { IfOk result (λ command. command ≡ load_of (view value.now)) }
@@ -107,8 +109,8 @@ fn load_of(alloc: Global, value: &Value) -> Result<Option<Command>, AllocError>
     }
 }
 
-/// Returns the command that a JSON value shows, as an ask holds it. Returns `None` if it shows
-/// none, or one that loads a machine.
+/// Returns the command that a JSON value stands for, as an ask holds it. Returns `None` if it
+/// stands for no command, or for one that loads a machine.
 pub fn command_shown(alloc: Global, value: &Value) -> Result<Option<Command>, AllocError>
     ensures command { IfOk result (λ command. command ≡ shown_in (view value.now)) }
     // Only a rule, a name and entries take memory, after all of them were looked at.
@@ -116,14 +118,14 @@ pub fn command_shown(alloc: Global, value: &Value) -> Result<Option<Command>, Al
     ensures texts { IfOk result (λ command. IfSome command HasText) }
 {
     match text_at(value, "do") {
-        Some(word) => by_word(alloc, word, value),
+        Some(word) => command_by_word(alloc, word, value),
         None => Ok(None),
     }
 }
 
-/// Returns the command of this word. Returns `None` if the word is `load` or no command's, or if
-/// the value's other members are not those of the word.
-fn by_word(alloc: Global, word: &str, value: &Value) -> Result<Option<Command>, AllocError>
+/// Returns the command of this word, from an object's other members. Returns `None` if the word is
+/// `load` or no command's, or if the other members are not those of the word.
+fn command_by_word(alloc: Global, word: &str, value: &Value) -> Result<Option<Command>, AllocError>
     ensures command { IfOk result (λ command. command ≡ by_word word.now (view value.now)) }
     ensures memory { option_map_or keeps_text (by_word word.now (view value.now)) false ≡ false
         → IsOk result }
@@ -133,13 +135,15 @@ fn by_word(alloc: Global, word: &str, value: &Value) -> Result<Option<Command>, 
         "rule" => rule_of(alloc, value),
         "drop" => drop_of(alloc, value),
         "cycle" => cycle_of(alloc, value),
-        _ => Ok(textless_by_word(word, value)),
+        _ => Ok(command_without_text(word, value)),
     }
 }
 
-/// The command of a word that isn't `rule`, `drop` or `cycle`: it keeps no texts.
+/// Returns the command of a word that isn't `rule`, `drop`, `cycle` or `load`, so that there is no
+/// text to copy. Returns `None` if there is no such word, or if the other members are not those of
+/// the word.
 #[tactic(auto, unfolding(crate::specs::Commands::clear_of, crate::specs::Commands::run_of, crate::specs::Commands::back_of, crate::specs::Commands::plane_of, crate::specs::Commands::side_of, crate::specs::Commands::colours_of, crate::specs::Commands::count_of))]
-fn textless_by_word(word: &str, value: &Value) -> Option<Command>
+fn command_without_text(word: &str, value: &Value) -> Option<Command>
     requires no_rule { bytes_eq word.now (codes "rule") ≡ false }
     requires no_drop { bytes_eq word.now (codes "drop") ≡ false }
     requires no_cycle { bytes_eq word.now (codes "cycle") ≡ false }
@@ -162,7 +166,8 @@ fn textless_by_word(word: &str, value: &Value) -> Option<Command>
     }
 }
 
-/// The command of an object of `do`, `plane`, `row` and `bits`, and no other member.
+/// Returns the command `set` of an object of `do`, `plane`, `row` and `bits`. Returns `None` if a
+/// member is missing or wrong, or there is another one.
 #[tactic(auto, unfolding(crate::specs::Commands::set_of))]
 fn set_of(value: &Value) -> Option<Command>
     ensures { result ≡ set_of (view value.now) }
@@ -176,7 +181,8 @@ fn set_of(value: &Value) -> Option<Command>
     Some(Command::Set { plane, row, bits })
 }
 
-/// The number at a key of an object that has two keys.
+/// Returns the number at a key of an object that has two keys. Returns `None` if it has no number
+/// there, or not two keys.
 #[tactic(auto, unfolding(crate::specs::Commands::sole_number))]
 pub(crate) fn sole_number(value: &Value, key: &str) -> Option<u64>
     ensures { result ≡ sole_number key.now (view value.now) }
@@ -187,8 +193,8 @@ pub(crate) fn sole_number(value: &Value, key: &str) -> Option<u64>
     number_at(value, key)
 }
 
-/// The command of an object of `do` and the five members of a rule. It has copies of the rule's
-/// texts.
+/// Returns the command `rule` of an object of `do` and the five members of a rule, with copies of
+/// its texts. Returns `None` if a member is missing or wrong, or there is another one.
 #[tactic(auto, unfolding(crate::specs::Commands::rule_of))]
 fn rule_of(alloc: Global, value: &Value) -> Result<Option<Command>, AllocError>
     ensures command { IfOk result (λ command. command ≡ rule_of (view value.now)) }
@@ -206,7 +212,8 @@ fn rule_of(alloc: Global, value: &Value) -> Result<Option<Command>, AllocError>
     Ok(Some(Command::Rule { name, wiring, text }))
 }
 
-/// The command of an object of `do` and `name`, and no other member. It has a copy of the name.
+/// Returns the command `drop` of an object of `do` and `name`, with a copy of the name. Returns
+/// `None` if `name` is no text, or there is another member.
 #[tactic(auto, unfolding(crate::specs::Commands::drop_of))]
 fn drop_of(alloc: Global, value: &Value) -> Result<Option<Command>, AllocError>
     ensures command { IfOk result (λ command. command ≡ drop_of (view value.now)) }
@@ -225,7 +232,8 @@ fn drop_of(alloc: Global, value: &Value) -> Result<Option<Command>, AllocError>
     }))
 }
 
-/// The command of an object of `do` alone that lists the rules.
+/// Returns the command that lists the rules, of an object of `do` alone. Returns `None` if there is
+/// another member.
 #[tactic(auto, unfolding(crate::specs::Commands::listing_of))]
 fn listing_of(value: &Value) -> Option<Command>
     ensures { result ≡ listing_of (view value.now) }
@@ -236,7 +244,8 @@ fn listing_of(value: &Value) -> Option<Command>
     Some(Command::Rules)
 }
 
-/// The command of an object of `do` and `entries`, and no other member.
+/// Returns the command `cycle` of an object of `do` and `entries`. Returns `None` if `entries` is
+/// no list of entries, or there is another member.
 #[tactic(auto, unfolding(crate::specs::Commands::cycle_of))]
 fn cycle_of(alloc: Global, value: &Value) -> Result<Option<Command>, AllocError>
     ensures command { IfOk result (λ command. command ≡ cycle_of (view value.now)) }
@@ -253,7 +262,8 @@ fn cycle_of(alloc: Global, value: &Value) -> Result<Option<Command>, AllocError>
     }
 }
 
-/// The command of an object of `do`, `plane` and `row`, and no other member.
+/// Returns the command `row` of an object of `do`, `plane` and `row`. Returns `None` if a member is
+/// missing or wrong, or there is another one.
 #[tactic(auto, unfolding(crate::specs::Commands::row_of))]
 fn row_of(value: &Value) -> Option<Command>
     ensures { result ≡ row_of (view value.now) }
@@ -266,7 +276,8 @@ fn row_of(value: &Value) -> Option<Command>
     Some(Command::Row { plane, row })
 }
 
-/// The command of an object of `do` and `colours`, and no other member.
+/// Returns the command that sets the colours, of an object of `do` and `colours`. Returns `None` if
+/// `colours` has not sixteen numbers, or there is another member.
 #[tactic(auto, unfolding(crate::specs::Commands::map_of))]
 fn map_of(value: &Value) -> Option<Command>
     ensures { result ≡ map_of (view value.now) }
@@ -278,7 +289,8 @@ fn map_of(value: &Value) -> Option<Command>
     Some(Command::Map { colours })
 }
 
-/// The command of an object of `do` alone that saves the machine.
+/// Returns the command `save` of an object of `do` alone. Returns `None` if there is another
+/// member.
 #[tactic(auto, unfolding(crate::specs::Commands::save_of))]
 fn save_of(value: &Value) -> Option<Command>
     ensures { result ≡ save_of (view value.now) }

@@ -12,7 +12,8 @@ use serde_json::Value;
 use std::alloc::{AllocError, Global};
 use std::marker::Model;
 
-/// The entries at a key, or `None` if it has no list, or one with something else in it.
+/// Returns the entries of the list at a key. Returns `None` if there is no list, or if one of its
+/// values is no entry.
 pub(crate) fn entries_at(
     alloc: Global,
     value: &Value,
@@ -29,8 +30,8 @@ pub(crate) fn entries_at(
     }
 }
 
-/// The entries that values show, or `None` if one shows none. Looks at all of them before it
-/// allocates.
+/// Returns the entries that values stand for, or `None` if one of them is no entry. Looks at all of
+/// them before it allocates.
 fn entries_in(alloc: Global, values: &[Value]) -> Result<Option<NamedEntries>, AllocError>
     ensures entries { IfOk result (λ entries. entries ≡ entries_in (items_view values.now)) }
     ensures memory { option_map_or are_some (entries_in (items_view values.now)) false ≡ false
@@ -49,7 +50,7 @@ fn entries_in(alloc: Global, values: &[Value]) -> Result<Option<NamedEntries>, A
     Ok(Some(NamedEntries::new(entries)))
 }
 
-/// Whether each value is an entry.
+/// Whether each value stands for an entry.
 fn are_entries(values: &[Value]) -> bool
     ensures { result ≡ is_some (entries_in (items_view values.now)) }
 {
@@ -63,14 +64,14 @@ fn are_entries(values: &[Value]) -> bool
 
 /// An entry whose names are in the value that shows it. Contracts see it as the entry.
 #[derive(Drop)]
-struct ShownEntry<'a> {
+struct BorrowedEntry<'a> {
     a: &'a str,
     b: &'a str,
     grid: Grid,
     phase: u64,
 }
 
-impl<'a> Model for ShownEntry<'a> {
+impl<'a> Model for BorrowedEntry<'a> {
     ghost use Rattle.cam6_commands.specs.declared.commands.NamedEntry.{NamedEntry};
     ghost use Rattle.cam6_wire.specs.Entries.{rule_name_in};
 
@@ -84,8 +85,8 @@ impl<'a> Model for ShownEntry<'a> {
     } };
 }
 
-impl<'a> ShownEntry<'a> {
-    /// The entry with copies of its names.
+impl<'a> BorrowedEntry<'a> {
+    /// Returns the entry with copies of its names.
     fn copied(&self, alloc: Global) -> Result<NamedEntry, AllocError>
         ensures { IfOk result (λ entry. entry ≡ self.now) }
     {
@@ -98,9 +99,10 @@ impl<'a> ShownEntry<'a> {
     }
 }
 
-/// The entry that a value shows. It takes no memory.
+/// Returns the entry that a value stands for, with names borrowed from it. Returns `None` if it is
+/// no entry. Does not allocate.
 #[tactic(auto, unfolding(crate::specs::Entries::entry_in))]
-fn entry_in(value: &Value) -> Option<ShownEntry<'_>>
+fn entry_in(value: &Value) -> Option<BorrowedEntry<'_>>
     ensures { result ≡ entry_in (view value.now) }
 {
     if !has_size(value, 4) {
@@ -110,10 +112,11 @@ fn entry_in(value: &Value) -> Option<ShownEntry<'_>>
     let b = text_at(value, "b")?;
     let grid = text_at(value, "grid").and_then(Grid::named)?;
     let phase = number_at(value, "phase")?;
-    Some(ShownEntry { a, b, grid, phase })
+    Some(BorrowedEntry { a, b, grid, phase })
 }
 
-/// The rule that an entry names for a half; `-` names none.
+/// Returns a copy of the rule's name that an entry has for a half. Returns `None` for `-`, which
+/// names no rule.
 fn rule_name_in(alloc: Global, text: &str) -> Result<Option<Text>, AllocError>
     ensures { IfOk result (λ name. name ≡ rule_name_in text.now) }
 {

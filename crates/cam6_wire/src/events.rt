@@ -17,7 +17,8 @@ use cam6_commands::Event;
 use serde_json::Value;
 use std::alloc::{AllocError, Global};
 
-/// Returns the event that a line says, or its fault. Does not check that its user and board exist.
+/// Returns the event that a line is read as, or the line's fault. Does not check that its user and
+/// board exist.
 pub fn read_event(alloc: Global, line: &[u8]) -> Result<Event, LineFault>
     ensures said { IsSaid result (event line.now) }
     // An empty line and one that is too long take no memory.
@@ -31,8 +32,8 @@ pub fn read_event(alloc: Global, line: &[u8]) -> Result<Event, LineFault>
     event_shown(alloc, &value)?.ok_or(LineFault::NoCommand)
 }
 
-/// The board of a band, if its line is spelled plainly with one digit, as most lines of a replay
-/// are. Such a line is read without a JSON value. `None` of any other line.
+/// Returns the board of a band, if the line is spelled plainly with one digit, as most lines of a
+/// replay are. It is read without a JSON value. Returns `None` for any other line.
 fn plain_band(line: &[u8]) -> Option<u64>
     ensures { IfSome result (λ board. event line.now ≡ Ok (Event.Band board)) }
 {
@@ -47,7 +48,7 @@ fn plain_band(line: &[u8]) -> Option<u64>
     Some(u64::from(digit - b'0'))
 }
 
-/// Returns the event that a JSON value shows, or `None` if it shows none.
+/// Returns the event that a JSON value stands for, or `None` if it stands for none.
 pub fn event_shown(alloc: Global, value: &Value) -> Result<Option<Event>, AllocError>
     ensures event { IfOk result (λ event. event ≡ event_in (view value.now)) }
     // Only a rule, a name and entries of an ask take memory, after all of them were looked at.
@@ -56,25 +57,26 @@ pub fn event_shown(alloc: Global, value: &Value) -> Result<Option<Event>, AllocE
     let Some(kind) = text_at(value, "event") else {
         return Ok(None);
     };
-    by_word(alloc, kind, value)
+    event_by_word(alloc, kind, value)
 }
 
-/// Returns the event of this kind, or `None` if there is no such kind or its other members are not
-/// those of the kind.
-fn by_word(alloc: Global, kind: &str, value: &Value) -> Result<Option<Event>, AllocError>
+/// Returns the event of this kind, from an object's other members. Returns `None` if there is no
+/// such kind, or if the other members are not those of the kind.
+fn event_by_word(alloc: Global, kind: &str, value: &Value) -> Result<Option<Event>, AllocError>
     ensures event { IfOk result (λ event. event ≡ event_by_word kind.now (view value.now)) }
     ensures memory { option_map_or keeps_text_of (event_by_word kind.now (view value.now)) false
         ≡ false → IsOk result }
 {
     match kind {
         "ask" => ask_of(alloc, value),
-        _ => Ok(askless_by_word(kind, value)),
+        _ => Ok(event_without_command(kind, value)),
     }
 }
 
-/// The event of a kind that isn't `ask`: it keeps no texts.
+/// Returns the event of a kind other than `ask`, which has no text to copy. Returns `None` if there
+/// is no such kind, or if the other members are not those of the kind.
 #[tactic(auto, unfolding(crate::specs::Events::band_of, crate::specs::Events::preempt_of, crate::specs::Events::fail_of, crate::specs::Events::repair_of, crate::specs::Events::collect_of))]
-fn askless_by_word(kind: &str, value: &Value) -> Option<Event>
+fn event_without_command(kind: &str, value: &Value) -> Option<Event>
     requires no_ask { bytes_eq kind.now (codes "ask") ≡ false }
     ensures { result ≡ event_by_word kind.now (view value.now) }
 {
@@ -90,8 +92,8 @@ fn askless_by_word(kind: &str, value: &Value) -> Option<Event>
     }
 }
 
-/// The event of an object of `event`, `user` and `command`, and no other member. It can't load a
-/// machine.
+/// Returns the ask of an object of `event`, `user` and `command`. Returns `None` if a member is
+/// missing or wrong, if there is another one, or if the command loads a machine.
 #[tactic(auto, unfolding(crate::specs::Events::ask_of))]
 fn ask_of(alloc: Global, value: &Value) -> Result<Option<Event>, AllocError>
     ensures event { IfOk result (λ event. event ≡ ask_of (view value.now)) }
@@ -113,7 +115,8 @@ fn ask_of(alloc: Global, value: &Value) -> Result<Option<Event>, AllocError>
     }
 }
 
-/// The event of an object of `event`, `user` and `board`, and no other member.
+/// Returns the lease of an object of `event`, `user` and `board`. Returns `None` if a member is
+/// missing or wrong, or there is another one.
 #[tactic(auto, unfolding(crate::specs::Events::lease_of))]
 fn lease_of(value: &Value) -> Option<Event>
     ensures { result ≡ lease_of (view value.now) }
@@ -126,7 +129,7 @@ fn lease_of(value: &Value) -> Option<Event>
     Some(Event::Lease(user, board))
 }
 
-/// The event of an object of `event` alone.
+/// Returns the eviction of an object of `event` alone. Returns `None` if there is another member.
 #[tactic(auto, unfolding(crate::specs::Events::evict_of))]
 fn evict_of(value: &Value) -> Option<Event>
     ensures { result ≡ evict_of (view value.now) }

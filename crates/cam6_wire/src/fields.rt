@@ -17,14 +17,16 @@ pub(crate) fn has_size(value: &Value, size: usize) -> bool
     }
 }
 
-/// The whole number at a key, below 2 to the power of 64, if it has one.
+/// Returns the whole number at a key, below 2 to the power of 64. Returns `None` if the value has
+/// no such number there.
 pub(crate) fn number_at(value: &Value, key: &str) -> Option<u64>
     ensures { result ≡ number_at key.now (view value.now) }
 {
     value.get(key).and_then(Value::as_u64)
 }
 
-/// The sixteen whole numbers at a key, a colour for each state, if it has a list of so many.
+/// Returns the sixteen whole numbers at a key, a colour for each state. Returns `None` if the value
+/// has no list of sixteen such numbers there.
 pub(crate) fn colours_at(value: &Value, key: &str) -> Option<[u64; 16]>
     ensures { result ≡ colours_at key.now (view value.now) }
 {
@@ -32,7 +34,7 @@ pub(crate) fn colours_at(value: &Value, key: &str) -> Option<[u64; 16]>
     colours_of(values)
 }
 
-/// The numbers of a list of sixteen whole numbers, or `None` for any other list.
+/// Returns the numbers of a list of sixteen whole numbers, or `None` for any other list.
 fn colours_of(values: &[Value]) -> Option<[u64; 16]>
     ensures { result ≡ option_and_then of_states (numbers_of (items_view values.now)) }
 {
@@ -46,15 +48,15 @@ fn colours_of(values: &[Value]) -> Option<[u64; 16]>
     Some(colours)
 }
 
-/// The text at a key, if it has one.
+/// Returns the text at a key, or `None` if the value has no text there.
 pub(crate) fn text_at<'a>(value: &'a Value, key: &str) -> Option<&'a str>
     ensures { option_map (λ text. text.now) result ≡ text_at key.now (view value.now) }
 {
     value.get(key).and_then(Value::as_str)
 }
 
-/// The bits of a plane's row at a key, from hexadecimal digits of either case. Returns `None`
-/// unless there are as many digits as a row of one of the sides has.
+/// Returns the bits of a plane's row at a key, read from hexadecimal digits of either case. Returns
+/// `None` unless there are as many digits as a row of one of the sides has.
 pub(crate) fn bits_at(value: &Value, key: &str) -> Option<Bits>
     ensures { result ≡ bits_at key.now (view value.now) }
 {

@@ -11,7 +11,8 @@ pub const LOAD_LINE_LIMIT: usize = 2_097_152;
 /// The bytes with which a load begins.
 const LOAD_HEAD: [u8; 13] = *b"{\"do\":\"load\",";
 
-/// Returns the most bytes that this line may have, which depends on how it begins.
+/// Returns the most bytes that a line may have. A line that begins as a load does may have more
+/// than any other.
 pub fn line_limit(line: &[u8]) -> usize
     ensures { result ≡ limit_of line.now }
 {
@@ -30,7 +31,7 @@ fn begins_load(line: &[u8]) -> bool
     line.starts_with(&LOAD_HEAD)
 }
 
-/// Returns whether a line of these two parts begins as a load does.
+/// Whether the line that is `front` and then `part` begins as a load does.
 pub fn begins_load_in(front: &[u8], part: &[u8]) -> bool
     ensures { result ≡ begins_load (front.now ++ part.now) }
 {

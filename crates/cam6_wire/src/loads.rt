@@ -14,8 +14,8 @@ use cam6_planes::{Bits, bits_of_digits};
 use serde_json::Value;
 use std::alloc::{AllocError, Global};
 
-/// The saved machine that a value shows, in either version. Doesn't check its side, its position,
-/// or how many rows a plane has.
+/// Returns the saved machine that a value stands for, in either version, or `None` if it stands for
+/// none. Doesn't check its side, its position, or how many rows a plane has.
 #[tactic(auto, unfolding(crate::specs::Loads::saved_in))]
 pub(crate) fn saved_in(alloc: Global, value: &Value) -> Result<Option<SavedMachine>, AllocError>
     ensures { IfOk result (λ saved. saved ≡ saved_in (view value.now)) }
@@ -29,7 +29,7 @@ pub(crate) fn saved_in(alloc: Global, value: &Value) -> Result<Option<SavedMachi
     saved_fields(alloc, side, value)
 }
 
-/// The version of a value of a saved machine.
+/// Returns the version of a value of a saved machine, or `None` if it has none that is known.
 fn version_in(value: &Value) -> Option<Version>
     ensures { result ≡ version_in (view value.now) }
 {
@@ -40,8 +40,8 @@ fn version_in(value: &Value) -> Option<Version>
     }
 }
 
-/// The side, which is 256 in the first version. Returns `None` if the number of keys isn't that of
-/// the version, or if the second version has no side.
+/// Returns the side of a saved machine, which is 256 in the first version. Returns `None` if the
+/// number of keys isn't that of the version, or if the second version has no side.
 fn side_in(version: Version, value: &Value) -> Option<u64>
     ensures { result ≡ side_in version (view value.now) }
 {
@@ -57,7 +57,8 @@ fn side_in(version: Version, value: &Value) -> Option<u64>
     }
 }
 
-/// What was saved of a machine of this side.
+/// Returns the saved machine of this side that an object's other members have. Returns `None` if
+/// one of them is missing or wrong.
 fn saved_fields(alloc: Global, side: u64, value: &Value) -> Result<Option<SavedMachine>, AllocError>
     ensures { IfOk result (λ saved. saved ≡ saved_fields side (view value.now)) }
 {
@@ -86,7 +87,7 @@ fn saved_fields(alloc: Global, side: u64, value: &Value) -> Result<Option<SavedM
     }))
 }
 
-/// The four planes at a key.
+/// Returns the four planes at a key, or `None` if the value has no list of four planes there.
 fn planes_at(alloc: Global, value: &Value, key: &str) -> Result<Option<[BitRows; 4]>, AllocError>
     ensures { IfOk result (λ planes. planes ≡ planes_at key.now (view value.now)) }
 {
@@ -96,7 +97,7 @@ fn planes_at(alloc: Global, value: &Value, key: &str) -> Result<Option<[BitRows;
     }
 }
 
-/// The planes of a list of four planes, or `None` for any other list.
+/// Returns the planes of a list of four planes, or `None` for any other list.
 fn four_planes(alloc: Global, values: &[Value]) -> Result<Option<[BitRows; 4]>, AllocError>
     ensures { IfOk result (λ planes.
         planes ≡ option_and_then of_four (planes_of (items_view values.now))) }
@@ -119,7 +120,7 @@ fn four_planes(alloc: Global, values: &[Value]) -> Result<Option<[BitRows; 4]>, 
     Ok(Some([first, second, third, fourth]))
 }
 
-/// The rows of a plane.
+/// Returns the rows of a plane, or `None` if the value is no list of rows.
 fn rows_in(alloc: Global, value: &Value) -> Result<Option<BitRows>, AllocError>
     ensures { IfOk result (λ rows. rows ≡ rows_in (view value.now)) }
 {
@@ -129,7 +130,7 @@ fn rows_in(alloc: Global, value: &Value) -> Result<Option<BitRows>, AllocError>
     }
 }
 
-/// The rows of a list of hexadecimal digits, or `None` if one is not a row of any side.
+/// Returns the rows of a list of hexadecimal digits, or `None` if one is not a row of any side.
 fn rows_of(alloc: Global, values: &[Value]) -> Result<Option<BitRows>, AllocError>
     ensures { IfOk result (λ rows. rows ≡ rows_of (items_view values.now)) }
 {
@@ -143,14 +144,15 @@ fn rows_of(alloc: Global, values: &[Value]) -> Result<Option<BitRows>, AllocErro
     Ok(Some(BitRows::new(rows)))
 }
 
-/// The bits of a row's digits.
+/// Returns the bits that a row's hexadecimal digits stand for, or `None` if the value is not a row
+/// of any side.
 fn bits_in(value: &Value) -> Option<Bits>
     ensures { result ≡ bits_in (view value.now) }
 {
     bits_of_digits(value.as_str()?.as_bytes())
 }
 
-/// The rules at a key.
+/// Returns the rules at a key, or `None` if the value has no list of rules there.
 fn rules_at(alloc: Global, value: &Value, key: &str) -> Result<Option<NamedRules>, AllocError>
     ensures { IfOk result (λ rules. rules ≡ rules_at key.now (view value.now)) }
 {
@@ -160,7 +162,7 @@ fn rules_at(alloc: Global, value: &Value, key: &str) -> Result<Option<NamedRules
     }
 }
 
-/// The rules of a list, or `None` if one of its values is no rule.
+/// Returns the rules of a list, or `None` if one of its values is no rule.
 fn rules_in(alloc: Global, values: &[Value]) -> Result<Option<NamedRules>, AllocError>
     ensures { IfOk result (λ rules. rules ≡ rules_in (items_view values.now)) }
 {
@@ -174,7 +176,8 @@ fn rules_in(alloc: Global, values: &[Value]) -> Result<Option<NamedRules>, Alloc
     Ok(Some(NamedRules::new(rules)))
 }
 
-/// The rule of an object of the five members of a rule, and no other, with copies of its texts.
+/// Returns the rule of an object of the five members of a rule, with copies of its texts. Returns
+/// `None` if a member is missing or wrong, or there is another one.
 #[tactic(auto, unfolding(crate::specs::Loads::rule_in))]
 fn rule_in(alloc: Global, value: &Value) -> Result<Option<NamedRule>, AllocError>
     ensures { IfOk result (λ rule. rule ≡ rule_in (view value.now)) }

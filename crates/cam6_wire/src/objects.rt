@@ -6,7 +6,7 @@ ghost use Rattle.serde_json.specs.View.{view, members_view};
 use serde_json::{Map, Value, put};
 use std::alloc::{AllocError, Global};
 
-/// These members and one more.
+/// Adds a member to an object's members, and returns them all.
 pub(crate) fn with_member(
     alloc: Global,
     members: Map<String, Value>,
@@ -21,7 +21,7 @@ pub(crate) fn with_member(
     Ok(more)
 }
 
-/// These members and a text.
+/// Adds a member whose value is a text to an object's members, and returns them all.
 pub(crate) fn with_text(
     alloc: Global,
     members: Map<String, Value>,

@@ -6,14 +6,14 @@ ghost use Rattle.serde_json.specs.View.{view};
 ghost use Rattle.cam6_wire.specs.Outcomes.{WasDone, left_after, outcome_bytes, outcome_data};
 ghost use Rattle.cam6_wire.specs.Outcomes.{refused};
 
-use crate::replies::{ok_value, reply_value, told_value};
+use crate::replies::{ok_value, ok_value_with, reply_value};
 use cam6_commands::{Outcome, Refused, Reply};
 use cam6_planes::NoMemory;
 use serde_json::{Value, json};
 use std::alloc::{AllocError, Global};
 
-/// Returns the line that reports what came of an event, without its LF. If an allocation failed for
-/// the event, its number is 0.
+/// Returns the line that reports an event's outcome, without its LF. If an allocation failed for
+/// the event, the line has the number 0.
 pub fn outcome_text(alloc: Global, outcome: &Outcome) -> Result<String, NoMemory>
     ensures text { IfOk result (λ text. string_bytes text ≡ outcome_bytes outcome.now) }
     ensures value { IfOk result (λ text.
@@ -39,7 +39,7 @@ pub fn undone_line(outcome: &Outcome) -> Option<&'static str>
     }
 }
 
-/// The line that reports why an event is refused, with its LF.
+/// Returns the line that reports why an event is refused, with its LF.
 fn refused_line(reason: Refused) -> &'static str
     ensures { result.now ≡ outcome_bytes (Outcome.Refused reason) ++ 10 ∷ [] }
 {
@@ -56,7 +56,8 @@ fn refused_line(reason: Refused) -> &'static str
     }
 }
 
-/// The text of a band that leaves so many bands, its keys in byte order.
+/// Returns the line of a band after which so many bands are left, without its LF. Its keys are in
+/// byte order.
 fn band_text(alloc: Global, left: u64) -> Result<String, AllocError>
     ensures text { IfOk result (λ text. string_bytes text
         ≡ codes "{\"left\":" ++ decimal left ++ codes ",\"ok\":\"band\"}") }
@@ -65,7 +66,7 @@ fn band_text(alloc: Global, left: u64) -> Result<String, AllocError>
     format!(in alloc; "{{\"left\":{left},\"ok\":\"band\"}}")
 }
 
-/// The JSON value of an outcome. An event that ran out of memory is refused with number 0.
+/// Returns the JSON value of an outcome. An event that ran out of memory is refused with number 0.
 fn outcome_value(alloc: Global, outcome: &Outcome) -> Result<Value, AllocError>
     ensures { IfOk result (λ value. view value ≡ outcome_data outcome.now) }
 {
@@ -84,24 +85,24 @@ fn outcome_value(alloc: Global, outcome: &Outcome) -> Result<Value, AllocError>
     }
 }
 
-/// The value of a refused event, from the number of the reason.
+/// Returns the JSON value of a refused event, with the number of the reason.
 fn refused_value(alloc: Global, number: u8) -> Result<Value, AllocError>
     ensures { IfOk result (λ value. view value ≡ refused number) }
 {
     json!(in alloc; {"refused": number})
 }
 
-/// The value of an event that collects this reply.
+/// Returns the JSON value of a collect, with this reply.
 fn collected_value(alloc: Global, reply: &Reply) -> Result<Value, AllocError>
     ensures { IfOk result (λ value. view value ≡ outcome_data (Outcome.Collected reply.now)) }
 {
     let reply = reply_value(alloc, reply)?;
-    told_value(alloc, "collect", "reply", reply)
+    ok_value_with(alloc, "collect", "reply", reply)
 }
 
-/// The value of an event that leaves so many bands.
+/// Returns the JSON value of an event of this word, after which so many bands are left.
 fn left_value(alloc: Global, word: &str, left: u64) -> Result<Value, AllocError>
     ensures { IfOk result (λ value. view value ≡ left_after left word.now) }
 {
-    told_value(alloc, word, "left", Value::from(left))
+    ok_value_with(alloc, word, "left", Value::from(left))
 }

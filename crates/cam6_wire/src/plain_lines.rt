@@ -11,8 +11,8 @@ use crate::limits::LINE_LIMIT;
 use cam6_commands::Command;
 use cam6_planes::bits_of_digits;
 
-/// Returns the command that a line says, if it is one of those that are sent most, and its line is
-/// spelled plainly. Returns `None` of any other line, whatever it says.
+/// Returns the command that a line is read as, if the line is spelled plainly and has one of the
+/// five commands that are sent most. Returns `None` for any other line.
 pub(crate) fn plain_command(line: &[u8]) -> Option<Command>
     ensures said { IfSome result (λ command. what_is_said line.now ≡ Ok command) }
     ensures texts { IfSome result (λ command. HasText command) }
@@ -29,7 +29,8 @@ pub(crate) fn plain_command(line: &[u8]) -> Option<Command>
     }
 }
 
-/// The command of a line that runs so many steps, or shows a row.
+/// Returns the command of a line that runs steps or shows a row. Returns `None` for any other line
+/// or spelling.
 fn plain_run_or_row(line: &[u8]) -> Option<Command>
     requires short { length line.now ≤ max_line }
     ensures said { IfSome result (λ command. what_is_said line.now ≡ Ok command) }
@@ -41,7 +42,7 @@ fn plain_run_or_row(line: &[u8]) -> Option<Command>
     }
 }
 
-/// The command of a line that runs so many steps.
+/// Returns the command of a line that runs steps. Returns `None` for any other line or spelling.
 fn plain_run(line: &[u8]) -> Option<Command>
     requires short { length line.now ≤ max_line }
     ensures said { IfSome result (λ command. what_is_said line.now ≡ Ok command) }
@@ -51,7 +52,7 @@ fn plain_run(line: &[u8]) -> Option<Command>
     Some(Command::Run { n })
 }
 
-/// The command of a line that undoes so many steps.
+/// Returns the command of a line that undoes steps. Returns `None` for any other line or spelling.
 fn plain_back(line: &[u8]) -> Option<Command>
     requires short { length line.now ≤ max_line }
     ensures said { IfSome result (λ command. what_is_said line.now ≡ Ok command) }
@@ -61,7 +62,7 @@ fn plain_back(line: &[u8]) -> Option<Command>
     Some(Command::Back { n })
 }
 
-/// The command of a line that shows a plane.
+/// Returns the command of a line that shows a plane. Returns `None` for any other line or spelling.
 fn plain_plane(line: &[u8]) -> Option<Command>
     requires short { length line.now ≤ max_line }
     ensures said { IfSome result (λ command. what_is_said line.now ≡ Ok command) }
@@ -71,7 +72,7 @@ fn plain_plane(line: &[u8]) -> Option<Command>
     Some(Command::Plane { plane })
 }
 
-/// The command of a line that shows a row.
+/// Returns the command of a line that shows a row. Returns `None` for any other line or spelling.
 fn plain_row(line: &[u8]) -> Option<Command>
     requires short { length line.now ≤ max_line }
     ensures said { IfSome result (λ command. what_is_said line.now ≡ Ok command) }
@@ -85,7 +86,7 @@ fn plain_row(line: &[u8]) -> Option<Command>
     Some(Command::Row { plane, row })
 }
 
-/// The command of a line that sets a row.
+/// Returns the command of a line that sets a row. Returns `None` for any other line or spelling.
 fn plain_set(line: &[u8]) -> Option<Command>
     requires short { length line.now ≤ max_line }
     ensures said { IfSome result (λ command. what_is_said line.now ≡ Ok command) }
@@ -102,7 +103,8 @@ fn plain_set(line: &[u8]) -> Option<Command>
     Some(Command::Set { plane, row, bits })
 }
 
-/// The number of a text that is a prefix, a number and a brace.
+/// Returns the number of a text that is `front`, a number and a brace, or `None` for any other
+/// text.
 fn number_within(text: &[u8], front: &[u8]) -> Option<u64>
     ensures { IfSome result (λ n. (text.now ≡ front.now ++ decimal n ++ codes "}")
         × (n < 2 ^ 64)) }
@@ -115,7 +117,8 @@ fn number_within(text: &[u8], front: &[u8]) -> Option<u64>
     Some(n)
 }
 
-/// The number at the start of a text, spelled in decimal as JSON has it, and what comes after it.
+/// Returns the number at the start of a text, spelled in decimal as JSON has it, and what comes
+/// after it. Returns `None` if the text begins with no such number.
 fn number_before(text: &[u8]) -> Option<(u64, &[u8])>
     ensures { IfSome result (λ found. (text.now ≡ decimal found.0 ++ found.1.now)
         × (found.0 < 2 ^ 64)) }
@@ -126,7 +129,7 @@ fn number_before(text: &[u8]) -> Option<(u64, &[u8])>
     Some((n, rest))
 }
 
-/// The number of the digits at the start of a text, modulo 2 to the power of 64.
+/// Returns the number of the decimal digits at the start of a text, modulo 2 to the power of 64.
 fn number_of_digits(text: &[u8]) -> u64 {
     let mut n: u64 = 0;
     for byte in text {
@@ -140,7 +143,7 @@ fn number_of_digits(text: &[u8]) -> u64 {
     n
 }
 
-/// What comes after a prefix, if the text begins with it.
+/// Returns what comes after `front`, or `None` if the text doesn't begin with it.
 fn strip_prefix<'a>(text: &'a [u8], front: &[u8]) -> Option<&'a [u8]>
     ensures { IfSome result (λ rest. text.now ≡ front.now ++ rest.now) }
 {
@@ -148,7 +151,7 @@ fn strip_prefix<'a>(text: &'a [u8], front: &[u8]) -> Option<&'a [u8]>
     Some(rest)
 }
 
-/// What stands before an end, if the text ends with it.
+/// Returns the text without `end`, or `None` if the text doesn't end with it.
 fn before<'a>(text: &'a [u8], end: &[u8]) -> Option<&'a [u8]>
     ensures { IfSome result (λ rest. text.now ≡ rest.now ++ end.now) }
 {

@@ -55,7 +55,7 @@ pub fn reply_text(alloc: Global, reply: &Reply) -> Result<String, NoMemory>
     }
 }
 
-/// The text of a reply, made of its JSON value.
+/// Returns the line of a reply, without its LF, written from its JSON value.
 fn value_text(alloc: Global, reply: &Reply) -> Result<String, NoMemory>
     ensures text { IfOk result (λ text. string_bytes text ≡ reply_bytes reply.now) }
     ensures value { IfOk result (λ text. read (string_bytes text) ≡ Some (reply_data reply.now)) }
@@ -63,7 +63,7 @@ fn value_text(alloc: Global, reply: &Reply) -> Result<String, NoMemory>
     Ok(reply_value(alloc, reply)?.to_string(alloc)?)
 }
 
-/// A text that is a prefix, a number and a brace.
+/// Returns the text that is `front`, a number and a brace.
 fn number_text(alloc: Global, front: &str, n: usize) -> Result<String, AllocError>
     ensures text { IfOk result (λ text. string_bytes text ≡ front.now ++ decimal n ++ codes "}") }
     ensures fits { n < 2 ^ 64 }
@@ -75,7 +75,8 @@ fn number_text(alloc: Global, front: &str, n: usize) -> Result<String, AllocErro
     Ok(text)
 }
 
-/// The text of the reply to a command that shows a row, its keys in byte order.
+/// Returns the line of the reply to a command that shows a row, without its LF. Its keys are in
+/// byte order.
 fn row_text(alloc: Global, bits: &RowText) -> Result<String, AllocError>
     ensures { IfOk result (λ text. string_bytes text
         ≡ reply_bytes (Reply.Done (Done.Row bits.now))) }
@@ -90,8 +91,8 @@ fn row_text(alloc: Global, bits: &RowText) -> Result<String, AllocError>
     Ok(String::from_utf8(writer.into_inner()).unwrap())
 }
 
-/// Returns the line of a reply that only says what was done, with its LF, and `None` for any other
-/// reply. Does not allocate.
+/// Returns the line, with its LF, of a reply that only says what was done. Returns `None` for any
+/// other reply. Does not allocate.
 pub fn fixed_line(reply: &Reply) -> Option<&'static str>
     ensures { IfSome result (λ line. line.now ≡ reply_bytes reply.now ++ 10 ∷ []) }
 {
@@ -111,7 +112,8 @@ pub fn fixed_line(reply: &Reply) -> Option<&'static str>
     }
 }
 
-/// Returns the same line without its LF, and `None` for any other reply. Does not allocate.
+/// Returns the line, without its LF, of a reply that only says what was done. Returns `None` for
+/// any other reply. Does not allocate.
 pub fn fixed_text(reply: &Reply) -> Option<&'static str>
     ensures text { IfSome result (λ text. text.now ≡ reply_bytes reply.now) }
     ensures others { result ≡ None → is_fixed reply.now ≡ false }
@@ -160,7 +162,7 @@ pub fn fault_line(fault: LineFault) -> &'static str
     }
 }
 
-/// The JSON value of a reply: an object with `ok` or with `fault`.
+/// Returns the JSON value of a reply: an object with `ok` or with `fault`.
 pub(crate) fn reply_value(alloc: Global, reply: &Reply) -> Result<Value, AllocError>
     ensures { IfOk result (λ value. view value ≡ reply_data reply.now) }
 {
@@ -170,7 +172,8 @@ pub(crate) fn reply_value(alloc: Global, reply: &Reply) -> Result<Value, AllocEr
     }
 }
 
-/// The value of what a command did: `ok` with the command's word, and what it shows.
+/// Returns the JSON value of what a command did: `ok` with the command's word, and what the command
+/// shows.
 fn done_value(alloc: Global, done: &Done) -> Result<Value, AllocError>
     ensures { IfOk result (λ value. view value ≡ done_data done.now) }
 {
@@ -183,58 +186,59 @@ fn done_value(alloc: Global, done: &Done) -> Result<Value, AllocError>
         Done::Cycle => ok_value(alloc, "cycle"),
         Done::Side => ok_value(alloc, "side"),
         Done::Map => ok_value(alloc, "map"),
-        Done::Run { position } => moved(alloc, "run", *position),
-        Done::Back { position } => moved(alloc, "back", *position),
+        Done::Run { position } => moved_value(alloc, "run", *position),
+        Done::Back { position } => moved_value(alloc, "back", *position),
         Done::Row { bits } => row_value(alloc, bits),
         Done::Plane { rows } => plane_value(alloc, rows),
         Done::Colours { colours } => coloured_value(alloc, colours),
-        Done::Count { count } => told_value(alloc, "count", "count", Value::from(*count)),
+        Done::Count { count } => ok_value_with(alloc, "count", "count", Value::from(*count)),
         Done::Save { machine } => save_value(alloc, machine),
         Done::Load => ok_value(alloc, "load"),
     }
 }
 
-/// The reply to a command that shows a row.
+/// Returns the JSON value of the reply to a command that shows a row.
 fn row_value(alloc: Global, bits: &RowText) -> Result<Value, AllocError>
     ensures { IfOk result (λ value. view value ≡ done_data (Done.Row bits.now)) }
 {
     let bits = Value::try_from_str(alloc, digits(bits.as_slice()))?;
-    told_value(alloc, "row", "bits", bits)
+    ok_value_with(alloc, "row", "bits", bits)
 }
 
-/// The reply to a command that lists the rules.
+/// Returns the JSON value of the reply to a command that lists the rules.
 fn rules_value(alloc: Global, names: &Names) -> Result<Value, AllocError>
     ensures { IfOk result (λ value. view value ≡ done_data (Done.Rules names.now)) }
 {
     let names = names_value(alloc, names)?;
-    told_value(alloc, "rules", "names", names)
+    ok_value_with(alloc, "rules", "names", names)
 }
 
-/// The reply to a command that shows all rows of a plane.
+/// Returns the JSON value of the reply to a command that shows all rows of a plane.
 fn plane_value(alloc: Global, rows: &PlaneRows) -> Result<Value, AllocError>
     ensures { IfOk result (λ value. view value ≡ done_data (Done.Plane rows.now)) }
 {
     let rows = rows_value(alloc, rows)?;
-    told_value(alloc, "plane", "rows", rows)
+    ok_value_with(alloc, "plane", "rows", rows)
 }
 
-/// The reply to a command that shows a row in colours.
+/// Returns the JSON value of the reply to a command that shows a row in colours.
 fn coloured_value(alloc: Global, colours: &RowColours) -> Result<Value, AllocError>
     ensures { IfOk result (λ value. view value ≡ done_data (Done.Colours colours.now)) }
 {
     let colours = colours_value(alloc, colours)?;
-    told_value(alloc, "colours", "colours", colours)
+    ok_value_with(alloc, "colours", "colours", colours)
 }
 
-/// The reply to a command that saves the machine.
+/// Returns the JSON value of the reply to a command that saves the machine.
 fn save_value(alloc: Global, machine: &SavedMachine) -> Result<Value, AllocError>
     ensures { IfOk result (λ value. view value ≡ done_data (Done.Save machine.now)) }
 {
     let machine = machine_value(alloc, Version::Second, machine)?;
-    told_value(alloc, "save", "machine", machine)
+    ok_value_with(alloc, "save", "machine", machine)
 }
 
-/// The value of a refusal: `fault` with its number, and where the fault lies, if it lies somewhere.
+/// Returns the JSON value of a refusal: `fault` with its number. It also has where the fault lies,
+/// if it lies somewhere.
 fn refusal_value(alloc: Global, refusal: Refusal) -> Result<Value, AllocError>
     ensures { IfOk result (λ value. view value ≡ refusal_data refusal) }
 {
@@ -248,7 +252,7 @@ fn refusal_value(alloc: Global, refusal: Refusal) -> Result<Value, AllocError>
     }
 }
 
-/// The value of a fault with one more member, at this key.
+/// Returns the JSON value of a fault, with one more member: the value `told` at this key.
 fn fault_value(alloc: Global, fault: u8, key: &str, told: Value) -> Result<Value, AllocError>
     ensures { IfOk result (λ value. view value ≡ object
         (put_member (codes "fault") (natural fault) (put_member key.now (view told) no_members))) }
@@ -256,15 +260,16 @@ fn fault_value(alloc: Global, fault: u8, key: &str, told: Value) -> Result<Value
     json!(in alloc; {key: told, "fault": fault})
 }
 
-/// The reply to `run` or `back`, with the position after the steps.
-fn moved(alloc: Global, word: &str, position: usize) -> Result<Value, AllocError>
+/// Returns the JSON value of the reply to `run` or `back`, with the position after the steps.
+fn moved_value(alloc: Global, word: &str, position: usize) -> Result<Value, AllocError>
     ensures { IfOk result (λ value.
         view value ≡ done word.now (member (codes "position") (natural position) no_members)) }
 {
-    told_value(alloc, word, "position", Value::from(position))
+    ok_value_with(alloc, word, "position", Value::from(position))
 }
 
-/// The refusal to undo a step of an entry, with the cause why the half's rule can't be undone.
+/// Returns the JSON value of the refusal to undo a step of an entry, with the cause why the half's
+/// rule can't be undone.
 fn cause_value(
     alloc: Global,
     entry: usize,
@@ -285,7 +290,7 @@ fn cause_value(
     }
 }
 
-/// The value of a cause that has no more members.
+/// Returns the JSON value of a cause that has no members of its own.
 fn plain_cause(
     alloc: Global,
     word: &str,
@@ -303,7 +308,7 @@ fn plain_cause(
     Ok(Value::Object(members))
 }
 
-/// The members that every cause has.
+/// Returns the members that every cause has.
 fn cause_members(
     alloc: Global,
     word: &str,
@@ -323,7 +328,7 @@ fn cause_members(
     with_text(alloc, members, "half", half)
 }
 
-/// The value of a meeting: these members, its phase and its two states.
+/// Returns the JSON value of a meeting of two states: these members, its phase and the states.
 fn meeting_value(
     alloc: Global,
     members: Map<String, Value>,
@@ -342,15 +347,17 @@ fn meeting_value(
     Ok(Value::Object(members))
 }
 
-/// The value of a command or an event that is done, with no more members.
+/// Returns the JSON value of a command or an event that is done: `ok` with its word, and no other
+/// member.
 pub(crate) fn ok_value(alloc: Global, word: &str) -> Result<Value, AllocError>
     ensures { IfOk result (λ value. view value ≡ done word.now no_members) }
 {
     json!(in alloc; {"ok": word})
 }
 
-/// The value of a command or an event that is done, with one more member, at this key.
-pub(crate) fn told_value(
+/// Returns the JSON value of a command or an event that is done: `ok` with its word, and `told` at
+/// this key.
+pub(crate) fn ok_value_with(
     alloc: Global,
     word: &str,
     key: &str,
@@ -363,7 +370,7 @@ pub(crate) fn told_value(
     json!(in alloc; {key: told, "ok": word})
 }
 
-/// An array with the digits of each row.
+/// Returns a JSON array of the digits of each row.
 fn rows_value(alloc: Global, rows: &PlaneRows) -> Result<Value, AllocError>
     ensures { IfOk result (λ value. view value ≡ array (texts rows.now)) }
 {
@@ -374,7 +381,7 @@ fn rows_value(alloc: Global, rows: &PlaneRows) -> Result<Value, AllocError>
     Ok(Value::Array(values))
 }
 
-/// An array with the text of each name.
+/// Returns a JSON array of the text of each name.
 fn names_value(alloc: Global, names: &Names) -> Result<Value, AllocError>
     ensures { IfOk result (λ value. view value ≡ array (texts names.now)) }
 {
@@ -385,7 +392,7 @@ fn names_value(alloc: Global, names: &Names) -> Result<Value, AllocError>
     Ok(Value::Array(values))
 }
 
-/// A hexadecimal digit for each colour.
+/// Returns a JSON text of a hexadecimal digit for each colour.
 fn colours_value(alloc: Global, colours: &RowColours) -> Result<Value, AllocError>
     ensures { IfOk result (λ value. view value ≡ string (map colour_digit colours.now)) }
 {
@@ -394,7 +401,7 @@ fn colours_value(alloc: Global, colours: &RowColours) -> Result<Value, AllocErro
     Value::try_from_str(alloc, digits(&text[..colours.len()]))
 }
 
-/// The digits of colours, at the front of the array.
+/// Returns an array that begins with the hexadecimal digit of each colour.
 fn colour_digits(colours: &[u8]) -> [u8; COLUMNS]
     requires few { length colours.now ≤ COLUMNS }
     requires small { AllByRecursion (λ colour. colour ≤ max_colour) colours.now }
@@ -408,7 +415,7 @@ fn colour_digits(colours: &[u8]) -> [u8; COLUMNS]
     text
 }
 
-/// The text of these bytes, which are ASCII.
+/// Returns these bytes, which are ASCII digits, as text.
 fn digits(row: &[u8]) -> &str
     requires row { IsAscii row.now }
     ensures { result.now ≡ row.now }

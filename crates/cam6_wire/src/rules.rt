@@ -14,13 +14,13 @@ use std::marker::Model;
 
 /// A rule whose texts are in the value that shows it. Contracts see it as the rule.
 #[derive(Drop)]
-pub(crate) struct ShownRule<'a> {
+pub(crate) struct BorrowedRule<'a> {
     name: &'a str,
     wiring: Wiring,
     text: &'a str,
 }
 
-impl<'a> Model for ShownRule<'a> {
+impl<'a> Model for BorrowedRule<'a> {
     ghost use Rattle.cam6_commands.specs.declared.saved.NamedRule.{NamedRule};
 
     ghost Value = { NamedRule };
@@ -28,8 +28,8 @@ impl<'a> Model for ShownRule<'a> {
     ghost view = { λ r. record { name = r.name.now; wiring = r.wiring; text = r.text.now } };
 }
 
-impl<'a> ShownRule<'a> {
-    /// The rule with copies of its texts.
+impl<'a> BorrowedRule<'a> {
+    /// Returns the rule with copies of its texts.
     pub(crate) fn copied(&self, alloc: Global) -> Result<NamedRule, AllocError>
         ensures rule { IfOk result (λ rule. rule ≡ self.now) }
         ensures utf8 { IfOk result (λ rule. IsUtf8 rule.text) }
@@ -44,13 +44,14 @@ impl<'a> ShownRule<'a> {
     }
 }
 
-/// The rule of the keys `half`, `hood`, `minor`, `name` and `text`, or `None` if one is missing or
-/// wrong. Doesn't look at other keys. It takes no memory.
-pub(crate) fn rule_fields(value: &Value) -> Option<ShownRule<'_>>
+/// Returns the rule of the keys `half`, `hood`, `minor`, `name` and `text`, with texts borrowed
+/// from the value. Returns `None` if one is missing or wrong. Doesn't look at other keys. Does not
+/// allocate.
+pub(crate) fn rule_fields(value: &Value) -> Option<BorrowedRule<'_>>
     ensures { result ≡ rule_fields (view value.now) }
 {
     let name = text_at(value, "name")?;
     let wiring = wiring_in(value)?;
     let text = text_at(value, "text")?;
-    Some(ShownRule { name, wiring, text })
+    Some(BorrowedRule { name, wiring, text })
 }

@@ -25,7 +25,7 @@ pub enum Version {
 /// How a line ends that loads a machine in the first version.
 const END_OF_FIRST: &[u8] = b"\"version\":1}}";
 
-/// Whether a line is the one that loads this machine, in either version.
+/// Whether a line is exactly the line that loads this machine, in either version.
 pub(crate) fn is_load_line(
     alloc: Global,
     line: &[u8],
@@ -46,7 +46,7 @@ pub(crate) fn is_load_line(
     is_load_line_in(alloc, line, Version::First, saved)
 }
 
-/// Whether a line is the one that loads this machine in a version.
+/// Whether a line is exactly the line that loads this machine in a version.
 fn is_load_line_in(
     alloc: Global,
     line: &[u8],
@@ -59,22 +59,22 @@ fn is_load_line_in(
     Ok(line == text.as_bytes())
 }
 
-/// The line that loads a machine in a version, without its LF.
+/// Returns the line that loads a machine in a version, without its LF.
 fn load_text(alloc: Global, version: Version, saved: &SavedMachine) -> Result<String, AllocError>
     ensures { IfOk result (λ text. string_bytes text ≡ load_bytes version saved.now) }
 {
     Ok(load_value(alloc, version, saved)?.to_string(alloc)?)
 }
 
-/// The value of the line that loads a machine in a version.
+/// Returns the JSON value of the line that loads a machine in a version.
 fn load_value(alloc: Global, version: Version, saved: &SavedMachine) -> Result<Value, AllocError>
     ensures { IfOk result (λ value. view value ≡ load_data (saved_data version saved.now)) }
 {
     json!(in alloc; {"do": "load", "machine": machine_value(alloc, version, saved)?})
 }
 
-/// A saved machine as a JSON value, in a version. The first version leaves out the side, whatever
-/// it is.
+/// Returns a saved machine as a JSON value, in a version. The first version leaves out the side,
+/// whatever it is.
 pub fn machine_value(
     alloc: Global,
     version: Version,
@@ -84,15 +84,15 @@ pub fn machine_value(
 {
     let members = shared_members(alloc, saved)?;
     match version {
-        Version::First => versioned(alloc, members, 1),
+        Version::First => versioned_value(alloc, members, 1),
         Version::Second => {
             let members = with_member(alloc, members, "side", Value::from(saved.side))?;
-            versioned(alloc, members, 2)
+            versioned_value(alloc, members, 2)
         }
     }
 }
 
-/// The members that a saved machine has in both versions.
+/// Returns the members that a saved machine has in both versions.
 fn shared_members(alloc: Global, saved: &SavedMachine) -> Result<Map<String, Value>, AllocError>
     ensures { IfOk result (λ members. members_view members.entries
         ≡ member (codes "colours") (array (naturals saved.now.colours))
@@ -111,8 +111,12 @@ fn shared_members(alloc: Global, saved: &SavedMachine) -> Result<Map<String, Val
     let rules = rules_value(alloc, saved.rules.as_slice())?;
     with_member(alloc, members, "rules", rules)
 }
-/// The value of these members and a version.
-fn versioned(alloc: Global, members: Map<String, Value>, version: u8) -> Result<Value, AllocError>
+/// Returns the JSON value of these members and a member with the version.
+fn versioned_value(
+    alloc: Global,
+    members: Map<String, Value>,
+    version: u8,
+) -> Result<Value, AllocError>
     ensures { IfOk result (λ value. view value ≡ object
         (put_member (codes "version") (natural version) (members_view members.entries))) }
 {
@@ -120,7 +124,7 @@ fn versioned(alloc: Global, members: Map<String, Value>, version: u8) -> Result<
     Ok(Value::Object(members))
 }
 
-/// An array with a number for each state.
+/// Returns a JSON array of a number for each state.
 fn colours_value(alloc: Global, colours: &[u64; 16]) -> Result<Value, AllocError>
     ensures { IfOk result (λ value. view value ≡ array (naturals colours.now)) }
 {
@@ -131,7 +135,7 @@ fn colours_value(alloc: Global, colours: &[u64; 16]) -> Result<Value, AllocError
     Ok(Value::Array(values))
 }
 
-/// An array with an object for each entry.
+/// Returns a JSON array of an object for each entry.
 fn cycle_value(alloc: Global, entries: &[NamedEntry]) -> Result<Value, AllocError>
     ensures { IfOk result (λ value. view value ≡ array (items_of (map entry_data entries.now))) }
 {
@@ -142,7 +146,7 @@ fn cycle_value(alloc: Global, entries: &[NamedEntry]) -> Result<Value, AllocErro
     Ok(Value::Array(values))
 }
 
-/// An object of `a`, `b`, `grid` and `phase`.
+/// Returns a JSON object of `a`, `b`, `grid` and `phase`.
 fn entry_value(alloc: Global, entry: &NamedEntry) -> Result<Value, AllocError>
     ensures { IfOk result (λ value. view value ≡ entry_data entry.now) }
 {
@@ -153,7 +157,7 @@ fn entry_value(alloc: Global, entry: &NamedEntry) -> Result<Value, AllocError>
     Ok(Value::Object(members))
 }
 
-/// An entry's name for a half, or `-` if it has none.
+/// Returns an entry's name for a half, or `-` if it has none.
 fn name_text(name: &Option<Text>) -> &str
     ensures { result.now ≡ name_text name.now }
 {
@@ -163,7 +167,7 @@ fn name_text(name: &Option<Text>) -> &str
     }
 }
 
-/// An array with an array of rows for each plane.
+/// Returns a JSON array of an array of rows for each plane.
 fn planes_value(alloc: Global, planes: &[BitRows; 4]) -> Result<Value, AllocError>
     ensures { IfOk result (λ value. view value ≡ array (items_of (map rows_data planes.now))) }
 {
@@ -174,7 +178,7 @@ fn planes_value(alloc: Global, planes: &[BitRows; 4]) -> Result<Value, AllocErro
     Ok(Value::Array(values))
 }
 
-/// The rows of a plane, each as its lower case hexadecimal digits.
+/// Returns a JSON array of the rows of a plane, each as its lower case hexadecimal digits.
 fn rows_value(alloc: Global, rows: &[Bits]) -> Result<Value, AllocError>
     ensures { IfOk result (λ value. view value ≡ rows_data rows.now) }
 {
@@ -185,7 +189,7 @@ fn rows_value(alloc: Global, rows: &[Bits]) -> Result<Value, AllocError>
     Ok(Value::Array(values))
 }
 
-/// An array with an object for each rule.
+/// Returns a JSON array of an object for each rule.
 fn rules_value(alloc: Global, rules: &[NamedRule]) -> Result<Value, AllocError>
     ensures { IfOk result (λ value. view value ≡ array (items_of (map rule_data rules.now))) }
 {
@@ -196,7 +200,7 @@ fn rules_value(alloc: Global, rules: &[NamedRule]) -> Result<Value, AllocError>
     Ok(Value::Array(values))
 }
 
-/// An object of `half`, `hood`, `minor`, `name` and `text`.
+/// Returns a JSON object of `half`, `hood`, `minor`, `name` and `text`.
 fn rule_value(alloc: Global, rule: &NamedRule) -> Result<Value, AllocError>
     ensures { IfOk result (λ value. view value ≡ rule_data rule.now) }
 {

@@ -35,7 +35,8 @@ pub fn read_seat(alloc: Global, line: &[u8]) -> Result<u64, LineFault>
     seat_shown(&value).ok_or(LineFault::NoCommand)
 }
 
-/// The user of an object that has the key `seat` and no other.
+/// Returns the number of the user for whom an object with the key `seat` and no other asks. Returns
+/// `None` for any other value.
 #[tactic(auto, unfolding(crate::specs::Seats::seat_in))]
 fn seat_shown(value: &Value) -> Option<u64>
     ensures { result ≡ seat_in (view value.now) }
@@ -46,7 +47,7 @@ fn seat_shown(value: &Value) -> Option<u64>
     number_at(value, "seat")
 }
 
-/// Returns the line of an answer, with its LF.
+/// Returns the line that answers a first line, with its LF.
 pub fn seating_line(seating: Seating) -> &'static str
     ensures { result.now ≡ seating_bytes seating ++ 10 ∷ [] }
 {
