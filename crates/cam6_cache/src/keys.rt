@@ -60,6 +60,7 @@ impl Hash for NamedKey {
 
     ghost respects_eq = { Prim.search (hashing, rules) };
 
+    /// Hashes the key's text alone.
     fn hash<H: Hasher>(&self, state: &mut H) {
         self.text.hash(state);
     }

@@ -16,8 +16,8 @@ pub enum Slip {
     FileAsWord,
 }
 
-/// Returns the slip that refused words show, or `None` if they show none. The first word is the
-/// program's name.
+/// Returns the slip that the user made in refused words, such as an option before its subcommand.
+/// Returns `None` if there is none that is known. The first word is the program's name.
 pub fn slip_of(words: &[String]) -> Option<Slip>
     ensures { result ≡ slip (map string_bytes words.now) }
 {
@@ -28,17 +28,17 @@ pub fn slip_of(words: &[String]) -> Option<Slip>
     }
 }
 
-/// The slip that the first two words after the program's name show.
+/// Returns the slip in the first two words after the program's name, or `None` if there is none.
 fn slip_at_two(word: &str, next: &str) -> Option<Slip>
     ensures { result ≡ slip_at_two word.now next.now }
 {
-    if reads_lines(word) && is_plain(next) {
+    if reads_lines(word) && is_no_option(next) {
         return Some(Slip::FileAsWord);
     }
     slip_at(word)
 }
 
-/// The slip that the first word after the program's name shows.
+/// Returns the slip in the first word after the program's name, or `None` if there is none.
 fn slip_at(word: &str) -> Option<Slip>
     ensures { result ≡ slip_at word.now }
 {
@@ -51,7 +51,7 @@ fn slip_at(word: &str) -> Option<Slip>
     if is_of_serving(word) {
         return Some(Slip::ServingByItself);
     }
-    if is_plain(word) && !is_mode(word) {
+    if is_no_option(word) && !is_mode(word) {
         return Some(Slip::FileAsWord);
     }
     None
@@ -78,8 +78,8 @@ fn is_of_serving(word: &str) -> bool
     begins("--port", word) || begins("--connections", word) || begins("--idle", word)
 }
 
-/// Whether the word is no option.
-fn is_plain(word: &str) -> bool
+/// Whether the word doesn't begin with `-`.
+fn is_no_option(word: &str) -> bool
     ensures { result ≡ is_plain word.now }
 {
     !begins("-", word)
@@ -99,9 +99,9 @@ fn is_mode(word: &str) -> bool
     reads_lines(word) || word == "serve" || word == "help"
 }
 
-/// Returns the hint about a slip, which stands after the reason why the words are refused. It is
-/// empty if there is no slip.
-pub fn told_of(slip: Option<Slip>) -> &'static str
+/// Returns the hint about a slip, which is printed after the reason why the words are refused. It
+/// is empty if there is no slip.
+pub fn hint_of(slip: Option<Slip>) -> &'static str
     ensures { result.now ≡ told_of slip }
 {
     match slip {

@@ -16,8 +16,8 @@ use std::io::{BufRead, Write};
 /// Reads of one session at most, that is calls of `fill_buf`.
 const READS: u64 = 1_099_511_627_776;
 
-/// Answers each line of the reader by one line, as a blank machine of this limit that gets all
-/// commands among them. Ends if the input ends or something fails.
+/// Makes a blank machine of this limit. It does the command of each line of the reader, and answers
+/// it by one line. Ends if the input ends or something fails, and returns which.
 pub fn serve_streams<R: BufRead, W: Write>(
     alloc: Global,
     limit: Side,
@@ -36,8 +36,8 @@ pub fn serve_streams<R: BufRead, W: Write>(
     serve_alone(alloc, limit, reader, writer, READS)
 }
 
-/// Does the event of each line of the reader, and writes its outcome as one line. So many users
-/// share so many boards and tables, each with a blank machine of this limit at the beginning.
+/// Does the event of each line of the reader, and writes its outcome as one line. `sharing` has the
+/// numbers of users, boards and cached tables. Each user begins with a blank machine of this limit.
 pub fn replay_streams<R: BufRead, W: Write>(
     alloc: Global,
     sharing: Sharing,
@@ -61,7 +61,7 @@ pub fn replay_streams<R: BufRead, W: Write>(
     replay(alloc, reader, writer, &mut core, READS)
 }
 
-/// A core of users who all have this limit.
+/// Makes a core for `sharing`. Each user has a blank machine of this limit.
 fn new_core(alloc: Global, sharing: Sharing, limit: Side) -> Result<Core, NoMemory>
     ensures { IfOk result (λ core. IsNew sharing limit core) }
 {

@@ -18,7 +18,7 @@ ghost use Rattle.cam6_cli.specs.CommandLine.{idle_option as option_of_silence};
 ghost use Rattle.cam6_cli.specs.Slips.{slip, told_of as what_is_told};
 
 use crate::modes::{Options, Sharing};
-use crate::slips::{slip_of, told_of};
+use crate::slips::{hint_of, slip_of};
 use cam6_arguments::{
     MAX_PORT, Program, Refused, new_command, number_at, number_option, refusal, side_at,
     side_option,
@@ -101,13 +101,14 @@ pub fn options(alloc: Global, words: &[String]) -> Result<Options, Refused>
         return Err(Refused::NoMemory);
     };
     match command.try_get_matches_from(words) {
-        Ok(matches) => Ok(mode_given(&matches)),
-        Err(error) => Err(refusal(alloc, error, told_of(slip_of(words)))),
+        Ok(matches) => Ok(mode_options(&matches)),
+        Err(error) => Err(refusal(alloc, error, hint_of(slip_of(words)))),
     }
 }
 
-/// What clap's matches ask for. Without a subcommand it is `alone` at side 256.
-fn mode_given(matches: &ArgMatches<'_>) -> Options
+/// Returns what the program is to do, from clap's matches. Without a subcommand it is `alone` at
+/// side 256.
+fn mode_options(matches: &ArgMatches<'_>) -> Options
     requires { IsSome (mode_of (subcommand_rows_of matches.now)) }
     ensures { HasMode result (mode_of (subcommand_rows_of matches.now)) }
 {
@@ -117,16 +118,16 @@ fn mode_given(matches: &ArgMatches<'_>) -> Options
         };
     }
     if let Some(replay) = matches.subcommand_matches("replay") {
-        return replay_given(replay);
+        return replay_options(replay);
     }
     if let Some(serve) = matches.subcommand_matches("serve") {
-        return serve_given(serve);
+        return serve_options(serve);
     }
     Options::Alone { limit: Side::S256 }
 }
 
-/// What the options of `replay` ask for.
-fn replay_given(matches: &ArgMatches<'_>) -> Options
+/// Returns what `replay` is to do, from the matches of its options.
+fn replay_options(matches: &ArgMatches<'_>) -> Options
     requires { IsSome (shared_at (rows_of (found_of matches.now))) }
     ensures { HasMode result (shared_at (rows_of (found_of matches.now))) }
 {
@@ -140,8 +141,8 @@ fn replay_given(matches: &ArgMatches<'_>) -> Options
     }
 }
 
-/// What the options of `serve` ask for.
-fn serve_given(matches: &ArgMatches<'_>) -> Options
+/// Returns what `serve` is to do, from the matches of its options.
+fn serve_options(matches: &ArgMatches<'_>) -> Options
     requires { IsSome (served_at (rows_of (found_of matches.now))) }
     ensures { HasMode result (served_at (rows_of (found_of matches.now))) }
 {
@@ -158,7 +159,8 @@ fn serve_given(matches: &ArgMatches<'_>) -> Options
     }
 }
 
-/// Returns the side at `--side`, the largest that a machine may have.
+/// Returns the side at `--side`, the largest that a machine may have. It has to be one of the three
+/// sides.
 fn side_given(matches: &ArgMatches<'_>) -> Side
     requires { IsSome (side_told (rows_of (found_of matches.now))) }
     ensures { side_told (rows_of (found_of matches.now)) ≡ Some result }
@@ -169,7 +171,7 @@ fn side_given(matches: &ArgMatches<'_>) -> Side
     side
 }
 
-/// Returns the number at an option, from `least` to `most`.
+/// Returns the number at an option. It has to be from `least` to `most`.
 fn number_given(matches: &ArgMatches<'_>, name: &str, least: u64, most: u64) -> u64
     requires { IsSome (number_told name.now least most (rows_of (found_of matches.now))) }
     ensures number { number_told name.now least most (rows_of (found_of matches.now))
@@ -182,7 +184,7 @@ fn number_given(matches: &ArgMatches<'_>, name: &str, least: u64, most: u64) -> 
     number
 }
 
-/// The program's command line.
+/// Makes the program's command line for clap: its subcommands and their options.
 pub fn program<'a>(alloc: Global) -> Result<Command<'a>, AllocError>
     ensures { IfOk result (λ command. IsProgram (app_of command)) }
 {

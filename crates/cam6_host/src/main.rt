@@ -39,11 +39,12 @@ cam6: type one event per line, such as {\"event\":\"evict\"}. Ctrl-D ends. Event
 fn main(rt: HostRuntime) -> ExitCode {
     run(
         &rt,
-        &|serving: Serving, port: u16| over_network(rt, serving, port),
+        &|serving: Serving, port: u16| serve_over_network(rt, serving, port),
     )
 }
 
-/// Reads the words, and does what they ask for. The closure `served` serves users over a network.
+/// Reads the arguments, and does what they ask for. The closure `served` serves users over a
+/// network. Returns the exit status.
 fn run<R: Env + Input + Print + Eprint + AllocGlobal, F: Fn(Serving, u16) -> ExitCode>(
     rt: &R,
     served: &F,
@@ -57,13 +58,13 @@ where
         Err(refused) => return refuse(rt, Program::Cam6, &refused),
     };
     match options {
-        Options::Alone { limit } => alone(rt, limit),
+        Options::Alone { limit } => serve_one_machine(rt, limit),
         Options::Replay { sharing, limit } => replay_events(rt, sharing, limit),
         Options::Serve { serving, port } => served(serving, port),
     }
 }
 
-/// Returns what the arguments ask for, or why they are refused.
+/// Reads the arguments. Returns what they ask for, or why they are refused.
 fn options_given<R: Env + AllocGlobal>(rt: &R) -> Result<Options, Refused> {
     let words = read_arguments(rt, Program::Cam6)?;
     options(rt.alloc(), words.as_slice())
@@ -77,8 +78,9 @@ fn greet(rt: &impl Eprint, input: &impl IsTerminal, text: &str) {
     }
 }
 
-/// Serves one machine over standard input and output.
-fn alone<R: Input + Print + Eprint + AllocGlobal>(rt: &R, limit: Side) -> ExitCode
+/// Does the commands of standard input on one machine, and writes a reply for each to standard
+/// output. Returns the exit status.
+fn serve_one_machine<R: Input + Print + Eprint + AllocGlobal>(rt: &R, limit: Side) -> ExitCode
 where
     R::Reader: IsTerminal,
 {
@@ -88,10 +90,11 @@ where
         return report_failure(rt, NO_MEMORY, Program::Cam6.no_memory());
     };
     let end = serve_streams(rt.alloc(), limit, &mut reader, &mut io::writer(rt));
-    ended(rt, end)
+    end_session(rt, end)
 }
 
-/// Plays the events of standard input, and writes an outcome for each to standard output.
+/// Does the events of standard input, and writes an outcome for each to standard output. Returns
+/// the exit status.
 fn replay_events<R: Input + Print + Eprint + AllocGlobal>(
     rt: &R,
     sharing: Sharing,
@@ -106,35 +109,35 @@ where
         return report_failure(rt, NO_MEMORY, Program::Cam6.no_memory());
     };
     let end = replay_streams(rt.alloc(), sharing, limit, &mut reader, &mut io::writer(rt));
-    ended(rt, end)
+    end_session(rt, end)
 }
 
-/// Serves users over connections to a port of this machine.
-fn over_network<
+/// Serves users over connections to a port of the address 127.0.0.1. Returns the exit status.
+fn serve_over_network<
     R: Handle + Net<Listener = TcpListener, Stream = TcpStream> + Eprint + Send + Sync + 'static,
 >(rt: R, serving: Serving, port: u16) -> ExitCode {
     let Ok(listener) = TcpListener::bind(&rt, (Ipv4Addr::LOCALHOST, port)) else {
-        return closed(&rt, Fault::Network);
+        return report_fault(&rt, Fault::Network);
     };
     // Whoever connects from here on is answered. The host goes on if this line can't be written.
     let _ = eprintln!(&rt; "listening on 127.0.0.1:{port}");
     match serve_net(rt, listener, &serving) {
         Ok(()) => ExitCode::SUCCESS,
-        Err(fault) => closed(&rt, fault),
+        Err(fault) => report_fault(&rt, fault),
     }
 }
 
 /// Prints why the host can't go on to standard error, and returns its exit status.
-fn closed(rt: &impl Eprint, fault: Fault) -> ExitCode
+fn report_fault(rt: &impl Eprint, fault: Fault) -> ExitCode
     ensures { exit_status result ≡ (fault_told fault).0 }
 {
     let (status, text) = fault_of(fault);
     report_failure(rt, status, text)
 }
 
-/// Returns the exit status of a session, which is 0 if all lines were answered. If it failed,
-/// prints why to standard error.
-fn ended(rt: &impl Eprint, end: End) -> ExitCode
+/// Returns the exit status of a session, which is 0 if all lines were answered. If the session
+/// failed, prints why to standard error.
+fn end_session(rt: &impl Eprint, end: End) -> ExitCode
     ensures { MatchOption (failure end) (exit_status result ≡ 0)
         (λ told. exit_status result ≡ told.0) }
 {

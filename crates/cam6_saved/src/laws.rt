@@ -3,22 +3,23 @@
 ghost use Rattle.cam6_saved.specs.Laws.{LineIsSaid, LineGivesBack, NoOtherLineLoads};
 ghost use Rattle.cam6_saved.specs.Laws.{OneTextOneMachine};
 
-/// The line of a machine is a load of what was saved of it.
+/// The line of a saved machine is read as the load of this machine.
 pub fn a_machines_line_is_said()
     ensures law { LineIsSaid }
 {}
 
-/// A machine that does the line becomes the machine that was saved, except for its limit.
+/// A machine whose limit is at least a saved machine's side does the load on this machine's line.
+/// It becomes the saved machine, except for its limit.
 pub fn a_machines_line_gives_it_back()
     ensures law { LineGivesBack }
 {}
 
-/// A load that is done is the line of the resulting machine.
+/// If a machine does a load, the load's line is the line of the machine that it becomes.
 pub fn no_other_line_loads_a_machine()
     ensures law { NoOtherLineLoads }
 {}
 
-/// Two machines with one text differ in their limits alone.
+/// Two machines that are saved as one text, in the second version, differ only in their limits.
 pub fn one_text_is_of_one_machine()
     ensures law { OneTextOneMachine }
 {}

@@ -60,13 +60,13 @@ pub fn converse<H: Handle, R: BufRead, W: Write, C: Connection>(
     };
     let taken = host.places.lock(&host.rt).take(user, waiter);
     match taken {
-        Ok(desk) => seated(host, reader, writer, connection, desk),
+        Ok(desk) => serve_at_desk(host, reader, writer, connection, desk),
         Err(seating) => refuse(writer, seating_line(seating)),
     }
 }
 
-/// Reads the first line. Returns the number of the seat that it asks for or the line's fault, or
-/// `Err` with the reason why nothing is answered.
+/// Reads the first line. Returns the number of the seat that it asks for, or the line's fault.
+/// Returns `Err` with the reason if nothing is to be answered.
 fn first_line<R: BufRead>(alloc: Global, reader: &mut R) -> Result<Result<u64, LineFault>, End>
     ensures read { ReadsFirst result (R.remaining reader.old) (R.remaining reader.new) }
     ensures memory { result ≢ Ok (Err LineFault.NoMemory) }
@@ -84,8 +84,8 @@ fn first_line<R: BufRead>(alloc: Global, reader: &mut R) -> Result<Result<u64, L
     }
 }
 
-/// Returns the number of the seat that a line asks for, or the line's fault. If an allocation
-/// fails, nothing is answered, and it returns `Err`.
+/// Returns the number of the seat that a line asks for, or the line's fault. Returns `Err` if an
+/// allocation fails, since nothing is answered then.
 fn answerable(alloc: Global, line: &LineBuf) -> Result<Result<u64, LineFault>, End>
     ensures said { (l : List ℕ) → Holds line.now l → Tells result l }
     ensures memory { result ≢ Ok (Err LineFault.NoMemory) }
@@ -119,9 +119,9 @@ fn refuse<W: Write>(writer: &mut W, answer: &str) -> Visit
     }
 }
 
-/// Serves a session at the user's desk, and then makes the desk free again. Whoever takes the desk
-/// next sees where the machine stands then.
-fn seated<H: Handle, R: BufRead, W: Write, C: Connection>(
+/// Notes that the client has its seat, and serves a session at the user's desk. Then gives the desk
+/// back to its place. Whoever takes the desk next finds the machine as it is then.
+fn serve_at_desk<H: Handle, R: BufRead, W: Write, C: Connection>(
     host: &HostState<H>,
     reader: &mut R,
     writer: &mut W,
@@ -142,7 +142,7 @@ fn seated<H: Handle, R: BufRead, W: Write, C: Connection>(
 }
 
 /// Writes to the client that it has its seat. Then answers the lines after the first one, by
-/// `answer_lines`. If the seat can't be told whole, answers none.
+/// `answer_lines`. If the first write fails, answers none.
 fn sit_down<R: BufRead, W: Write, D: Ask>(
     alloc: Global,
     reader: &mut R,

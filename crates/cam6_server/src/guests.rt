@@ -52,7 +52,8 @@ impl Model for Guests {
 }
 
 impl Guests {
-    /// No client is connected. There is room for `users + 64` that wait.
+    /// Makes the counts of a host at which no client is connected. There is room for `users + 64`
+    /// clients that wait.
     pub fn new(users: usize) -> Guests
         requires { users ≤ max_users }
         ensures { result ≡ nobody (users + 64) }
@@ -66,7 +67,7 @@ impl Guests {
         }
     }
 
-    /// Lets one more client wait, or returns false if there is no room.
+    /// Counts one more waiting client, or returns false if there is no room for it.
     pub fn enter(&mut self) -> bool
         ensures { Enters self.old result self.new }
     {
@@ -77,7 +78,7 @@ impl Guests {
         true
     }
 
-    /// Lets a waiting client hold a long line, or returns false if 8 already do.
+    /// Counts one more waiting client that holds a long line, or returns false if 8 already do.
     pub fn lengthen(&mut self) -> bool
         ensures { Lengthens self.old result self.new }
     {
@@ -98,7 +99,8 @@ impl Guests {
         self.was_seated = true;
     }
 
-    /// Removes a client that had this standing.
+    /// Counts a client as gone. `standing` tells whether it had a seat, waited, or waited with a
+    /// long first line.
     pub fn leave(&mut self, standing: Standing)
         ensures { Leaves standing self.old self.new }
     {

@@ -40,9 +40,9 @@ pub fn serve_net<R: Handle + Eprint + Send + Sync + 'static>(
     listener: TcpListener,
     serving: &Serving,
 ) -> Result<(), Fault> {
-    let (server, boards) = open(rt, serving)?;
+    let (server, boards) = new_server(rt, serving)?;
     let mut workers = Vec::new(rt.alloc());
-    let served = match employ(&server, boards, &mut workers) {
+    let served = match start_board_threads(&server, boards, &mut workers) {
         Ok(()) => accept(rt, &server, listener, serving.connections),
         Err(fault) => Err(fault),
     };
@@ -53,8 +53,9 @@ pub fn serve_net<R: Handle + Eprint + Send + Sync + 'static>(
     served
 }
 
-/// What the threads of a host share, and its boards.
-fn open<R: Handle>(
+/// Makes what the threads of a host share, and its boards, which are idle. Opens no socket and
+/// starts no thread.
+fn new_server<R: Handle>(
     rt: R,
     serving: &Serving,
 ) -> Result<(Arc<ServerState<R>>, Vec<IdleBoard>), NoMemory> {
@@ -72,7 +73,7 @@ fn open<R: Handle>(
     Ok((Arc::new(alloc, server)?, boards_at(alloc, seats)?))
 }
 
-/// How long a client with a seat may be silent, or `None` for no limit.
+/// Returns how long a client with a seat may be silent, or `None` for no limit.
 fn idle_of(serving: &Serving) -> Option<Duration> {
     match serving.idle {
         0 => None,
@@ -80,7 +81,8 @@ fn idle_of(serving: &Serving) -> Option<Duration> {
     }
 }
 
-/// Makes what the threads of a host share, with these desks and a gate for boards at these seats.
+/// Makes the state that the threads of a host share. The desks are put at their places, and the
+/// gate is for the boards at these seats.
 fn host_of<R: Handle>(
     rt: R,
     serving: &Serving,
@@ -101,7 +103,7 @@ fn host_of<R: Handle>(
     })
 }
 
-/// The gate of the boards at these seats.
+/// Makes the gate of the boards at these seats.
 fn gate_of<R: Handle>(
     rt: R,
     serving: &Serving,
@@ -115,9 +117,9 @@ fn gate_of<R: Handle>(
     }
 }
 
-/// Starts a thread for each board, and adds it to `workers`. If one can't be started, returns why.
-/// Those before it run, and are in `workers`.
-fn employ<R: Handle + Send + Sync + 'static>(
+/// Starts a thread for each board, and adds its handle to `workers`. If one can't be started,
+/// returns why. Those before it run, and are in `workers`.
+fn start_board_threads<R: Handle + Send + Sync + 'static>(
     server: &Arc<ServerState<R>>,
     boards: Vec<IdleBoard>,
     workers: &mut Vec<JoinHandle<()>>,
@@ -134,7 +136,7 @@ fn employ<R: Handle + Send + Sync + 'static>(
     Ok(())
 }
 
-/// Starts a thread for a board.
+/// Starts a thread that serves users with a board, and returns its handle.
 fn start<R: Handle + Send + Sync + 'static>(
     server: &Arc<ServerState<R>>,
     board: IdleBoard,
@@ -170,7 +172,7 @@ fn accept<R: Handle + Eprint + Send + Sync + 'static>(
                 }
             }
             Err(error) => {
-                failures.one_more(&rt, &error);
+                failures.note_failure(&rt, &error);
                 if failures.row > TRIES && !server.was_seated() {
                     return Err(Fault::Network);
                 }
@@ -179,7 +181,7 @@ fn accept<R: Handle + Eprint + Send + Sync + 'static>(
         }
     }
     drop(listener);
-    server.wait();
+    server.wait_for_clients_to_leave();
     Ok(())
 }
 
@@ -193,8 +195,9 @@ struct Failures {
 }
 
 impl Failures {
-    /// Counts one more, and reports it unless one of the 3,000 before it was reported.
-    fn one_more(&mut self, rt: &impl Eprint, error: &Error) {
+    /// Counts one more failure to accept a connection. Reports it on standard error, unless one of
+    /// the 3,000 failures before it was reported.
+    fn note_failure(&mut self, rt: &impl Eprint, error: &Error) {
         self.row = self.row.saturating_add(1);
         if self.quiet > 0 {
             self.quiet -= 1;

@@ -32,7 +32,7 @@ impl<W: Write + Drop> Outbox<W> {
         })
     }
 
-    /// The writer.
+    /// Returns the writer to which the outbox sends.
     pub fn writer(&self) -> &W
         ensures { result.now ≡ writer_inner self.now.held }
     {
@@ -57,7 +57,7 @@ impl<W: Write + Drop> Outbox<W> {
         sent
     }
 
-    /// Fails if bytes could not be sent before.
+    /// Fails if the outbox is broken: bytes could not be sent before.
     fn still_whole(&self) -> io::Result<()>
         ensures whole { OnOk result (self.now.is_broken ≡ false) }
         ensures broken { OnErr result (self.now.is_broken ≡ true) }
@@ -77,8 +77,8 @@ impl<W: Write + Drop> Write for Outbox<W> {
 
     ghost contents = { λ outbox. written W.contents outbox };
 
-    /// Takes bytes. Sends what is held back if there is no room for more. If that fails, the outbox
-    /// is broken.
+    /// Takes bytes, to be sent later, and returns how many it took. If there is no room for more,
+    /// first sends what is held back. If that fails, the outbox is broken.
     fn write(&mut self, bytes: &[u8]) -> io::Result<usize>
         ensures bound { WritesAtMost result bytes.now }
         ensures bytes { WriteAppends (written W.contents self.old) (written W.contents self.new)

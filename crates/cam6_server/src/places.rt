@@ -58,7 +58,7 @@ impl<W: Waiter> Ask for SeatedDesk<W> {
     // A desk may be asked while it doesn't wait, and no longer waits when it has answered.
     ghost is_ready = { λ desk. IsResting desk };
 
-    /// Has the waiter ask the desk, and replies.
+    /// Does a command at the desk, and returns its reply. The waiter waits for the command's steps.
     fn ask(&mut self, command: Command) -> Result<Reply, NoMemory> {
         self.at.ask(command)
     }
@@ -77,8 +77,8 @@ impl Places {
         Ok(Places { desks: places })
     }
 
-    /// Takes a user's desk from its place, for whoever asks it from here on. Fails if somebody has it
-    /// or there is no such user.
+    /// Takes a user's desk from its place. `waiter` waits for the steps of its commands. If
+    /// somebody has the desk or there is no such user, returns the answer that reports that.
     pub fn take<W: Drop>(&mut self, user: u64, waiter: W) -> Result<SeatedDesk<W>, Seating>
         ensures { Takes self.old user result self.new }
     {
@@ -104,7 +104,8 @@ impl Places {
     }
 }
 
-/// Takes the desk at a user's place.
+/// Takes the desk at a user's place. If it isn't there or there is no such user, returns the answer
+/// that reports that.
 fn take_from(desks: &mut Vec<Option<Desk>>, user: u64) -> Result<Desk, Seating>
     requires { AreAtTheirPlaces desks.old.items }
     ensures own { AreAtTheirPlaces desks.new.items }

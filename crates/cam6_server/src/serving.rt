@@ -53,8 +53,9 @@ impl Model for Serving {
 }
 
 impl Serving {
-    /// So many users, boards and tables, with machines up to this side; so many connections, or 0 for
-    /// connections without end; and so many seconds for a silent client, or 0 for no limit.
+    /// Makes the settings of a host: so many users, boards and cached tables, and machines up to
+    /// the side `limit`. It ends after `connections` connections, or never for 0. A seated client
+    /// may be silent for `idle` seconds, or without limit for 0.
     pub fn new(
         users: usize,
         boards: u8,

@@ -17,36 +17,40 @@ pub fn receive<R: Handle + Send + Sync + 'static>(server: &Arc<ServerState<R>>, 
     if !server.enter() {
         return;
     }
-    if begin(server, stream).is_none() {
+    if start_connection_thread(server, stream).is_none() {
         server.leave(Standing::Waiting);
     }
 }
 
-/// Starts the thread of a connection, which nobody joins. If there is no thread or no memory for
-/// it, closes the connection and returns `None`.
-fn begin<R: Handle + Send + Sync + 'static>(
+/// Starts the thread that serves a connection, which nobody joins. If there is no thread or no
+/// memory for it, closes the connection and returns `None`.
+fn start_connection_thread<R: Handle + Send + Sync + 'static>(
     server: &Arc<ServerState<R>>,
     stream: TcpStream,
 ) -> Option<()> {
     let theirs = Arc::try_clone(server).ok()?;
-    let thread = spawn(&server.host.rt, move || attend(&theirs, stream)).ok()?;
+    let thread = spawn(&server.host.rt, move || serve_and_close(&theirs, stream)).ok()?;
     // Its memory is freed when it ends.
     drop(thread);
     Some(())
 }
 
-/// Serves a connection, closes it, and then counts its client as gone.
-fn attend<R: Handle>(server: &ServerState<R>, stream: TcpStream) {
-    let standing = visit(server, &stream).unwrap_or(Standing::Waiting);
+/// Serves a connection to its end, closes it, and then counts its client as gone.
+fn serve_and_close<R: Handle>(server: &ServerState<R>, stream: TcpStream) {
+    let standing = serve_to_end(server, &stream).unwrap_or(Standing::Waiting);
     drop(stream);
     server.leave(standing);
 }
 
-/// Serves a connection. Returns what the client had at the end, or fails before anything is read.
-fn visit<'a, R: Handle>(server: &'a ServerState<R>, stream: &'a TcpStream) -> io::Result<Standing> {
+/// Serves a connection to its end, and sends what is held back. Returns whether its client then had
+/// a seat, or waited for one. Fails only before anything is read.
+fn serve_to_end<'a, R: Handle>(
+    server: &'a ServerState<R>,
+    stream: &'a TcpStream,
+) -> io::Result<Standing> {
     let link = Link::new(server.host.rt.alloc(), server, stream)?;
     let visit = serve_connection(&server.host, &link)?;
-    if leaves_lines(visit) {
+    if needs_drain(visit) {
         // The connection is closed next, so a failure here changes nothing.
         let _ = link.shut_down();
     } else {
@@ -55,14 +59,16 @@ fn visit<'a, R: Handle>(server: &'a ServerState<R>, stream: &'a TcpStream) -> io
     Ok(link.standing())
 }
 
-/// Answers the lines of a connection, by `converse`. Fails if there is no memory to read any.
+/// Answers the lines of a connection, by `converse`, and returns how it went. Fails if there is no
+/// memory to read any.
 fn serve_connection<R: Handle>(host: &HostState<R>, link: &Link<'_, R>) -> io::Result<Visit> {
     let mut reader = BufReader::new(host.rt.alloc(), &*link)?;
     Ok(converse(host, &mut reader, &mut &*link, link))
 }
 
-/// Whether lines may be left unread after the last answer.
-fn leaves_lines(visit: Visit) -> bool {
+/// Whether the socket has to be drained before it is closed, so that unread lines don't cost the
+/// client its last answer.
+fn needs_drain(visit: Visit) -> bool {
     match visit {
         Visit::Refused => true,
         Visit::Served(End::NoMemory { .. } | End::TurnBound) => true,

@@ -44,7 +44,8 @@ impl<R: Handle> ServerState<R> {
         self.guests.lock(&self.host.rt).was_seated()
     }
 
-    /// Removes a client that had this standing, and notifies `left` if it was the last one.
+    /// Counts a client as gone, and notifies `left` if it was the last one. `standing` tells
+    /// whether it had a seat, waited, or waited with a long first line.
     pub fn leave(&self, standing: Standing) {
         let mut guests = self.guests.lock(&self.host.rt);
         guests.leave(standing);
@@ -54,7 +55,7 @@ impl<R: Handle> ServerState<R> {
     }
 
     /// Waits until no client is connected.
-    pub fn wait(&self) {
+    pub fn wait_for_clients_to_leave(&self) {
         let rt = &self.host.rt;
         let guests = self.guests.lock(rt);
         self.left

@@ -35,7 +35,8 @@ pub trait Connection {
     /// Notes that the client has its seat from now on.
     fn sit(&self);
 
-    /// Sends the answers that are held back, because what is waited for next may take a while.
+    /// Sends the answers that are held back. It is called before the caller waits for something
+    /// that may take a while.
     fn release(&self) -> Released;
 }
 
@@ -48,9 +49,9 @@ struct Socket<'a, R: Handle> {
 }
 
 impl<R: Handle> Socket<'_, R> {
-    /// Whether a write with this fault is made again. It is if it was interrupted, or if it has
+    /// Whether a write that failed with this fault is tried again: it was interrupted, or it has
     /// waited and `deadline` isn't over.
-    fn goes_on(&self, fault: &Error, deadline: Instant) -> bool {
+    fn is_retried(&self, fault: &Error, deadline: Instant) -> bool {
         match fault.kind() {
             ErrorKind::Interrupted => true,
             ErrorKind::WouldBlock => time_left(self.clock, deadline).is_ok(),
@@ -59,7 +60,7 @@ impl<R: Handle> Socket<'_, R> {
     }
 
     /// Reads and drops bytes until the client has shut its sending side, or has sent 1 MiB. Fails
-    /// if a read fails, or if the time is over before that.
+    /// if a read fails, or if `deadline` is over before that.
     fn drain(mut self, deadline: Instant) -> io::Result<()> {
         let mut bytes = [0; 4_096];
         let mut drained = 0;
@@ -76,7 +77,7 @@ impl<R: Handle> Socket<'_, R> {
 }
 
 impl<R: Handle> Read for Socket<'_, R> {
-    /// Reads again if a signal interrupts it. Gives up after 1,000 tries.
+    /// Reads bytes, and again if a signal interrupts it. Gives up after 1,000 tries.
     fn read(&mut self, bytes: &mut [u8]) -> io::Result<usize> {
         let mut stream = self.stream;
         for _ in 0..TRIES {
@@ -90,20 +91,21 @@ impl<R: Handle> Read for Socket<'_, R> {
 }
 
 impl<R: Handle> Write for Socket<'_, R> {
-    /// Writes again if a signal interrupts it, or if the client takes no byte. Gives up after a
-    /// minute, or after 1,000 tries.
+    /// Writes bytes, and again if a signal interrupts it, or if the client takes no byte. Gives up
+    /// after a minute, or after 1,000 tries.
     fn write(&mut self, bytes: &[u8]) -> io::Result<usize> {
         let mut stream = self.stream;
         let deadline = deadline_in(self.clock, SEND_SECONDS)?;
         for _ in 0..TRIES {
             match stream.write(bytes) {
-                Err(fault) if self.goes_on(&fault, deadline) => {}
+                Err(fault) if self.is_retried(&fault, deadline) => {}
                 written => return written,
             }
         }
         Err(Error::from(ErrorKind::TimedOut))
     }
 
+    /// Flushes the socket, which holds nothing back.
     fn flush(&mut self) -> io::Result<()> {
         let mut stream = self.stream;
         stream.flush()
@@ -120,8 +122,8 @@ pub struct Link<'a, R: Handle> {
 }
 
 impl<'a, R: Handle> Link<'a, R> {
-    /// Makes the two sides of a new connection. From here on the client has ten seconds to take a
-    /// seat. Allocates the buffer of the outbox, and sets how long a write may wait.
+    /// Makes the reader and the outbox of a new connection. From here on the client has ten seconds
+    /// to take a seat. Allocates the buffer of the outbox, and sets how long a write may wait.
     pub fn new(
         alloc: Global,
         server: &'a ServerState<R>,
@@ -141,12 +143,12 @@ impl<'a, R: Handle> Link<'a, R> {
         })
     }
 
-    /// Whether the client has a seat, waits for one, or waits with a long first line.
+    /// Returns whether the client has a seat, waits for one, or waits with a long first line.
     pub fn standing(&self) -> Standing {
         self.terms.standing()
     }
 
-    /// Sends what is held back.
+    /// Sends the answers that are held back. Fails if the write fails.
     fn send(&self) -> io::Result<()> {
         match self.outbox.try_borrow_mut() {
             Ok(mut outbox) => outbox.release(),
@@ -154,9 +156,9 @@ impl<'a, R: Handle> Link<'a, R> {
         }
     }
 
-    /// Sends what is held back, shuts the sending side, and drops what the client still sends for a
-    /// while. A socket that is closed with unread bytes resets the connection, and the client may
-    /// lose its last answer.
+    /// Sends the answers that are held back, and shuts the sending side. Then reads and drops what
+    /// the client still sends for a while. A socket that is closed with unread bytes resets the
+    /// connection, and the client may lose its last answer.
     pub fn shut_down(&self) -> io::Result<()> {
         self.send()?;
         self.socket.stream.shutdown(Shutdown::Write)?;
@@ -166,11 +168,13 @@ impl<'a, R: Handle> Link<'a, R> {
 }
 
 impl<R: Handle> Connection for Link<'_, R> {
+    /// Notes that the client has its seat: the limits of a seated client hold from now on.
     fn sit(&self) {
         self.terms.sit();
     }
 
-    /// Sends what is held back. If that fails, the next write and the next read fail too.
+    /// Sends the answers that are held back. If that fails, the next write and the next read fail
+    /// too.
     fn release(&self) -> Released {
         // The outbox is broken if it fails, so the next write and the next read fail too.
         let _ = self.send();
@@ -180,6 +184,8 @@ impl<R: Handle> Connection for Link<'_, R> {
 
 /// Reads the bytes of a connection, after it sends what is held back.
 impl<R: Handle> Read for &Link<'_, R> {
+    /// Sends the answers that are held back, and then reads bytes. Fails if either fails, or if the
+    /// client has no time left.
     fn read(&mut self, bytes: &mut [u8]) -> io::Result<usize> {
         self.send()?;
         let mut socket = self.socket;
@@ -192,6 +198,8 @@ impl<R: Handle> Read for &Link<'_, R> {
 
 /// Writes answers, which are held back.
 impl<R: Handle> Write for &Link<'_, R> {
+    /// Holds bytes back, to be sent later. Sends what is held back if there is no room for more.
+    /// Fails if the outbox is broken.
     fn write(&mut self, bytes: &[u8]) -> io::Result<usize> {
         match self.outbox.try_borrow_mut() {
             Ok(mut outbox) => outbox.write(bytes),

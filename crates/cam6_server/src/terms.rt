@@ -30,7 +30,7 @@ pub struct Terms<'a, R: Handle> {
 }
 
 impl<'a, R: Handle> Terms<'a, R> {
-    /// The limits of a client that has just connected.
+    /// Makes the limits of a client that has just connected: ten seconds to take a seat.
     pub fn new(server: &'a ServerState<R>) -> io::Result<Terms<'a, R>> {
         let rt = server.host.rt;
         Ok(Terms {
@@ -44,7 +44,7 @@ impl<'a, R: Handle> Terms<'a, R> {
         })
     }
 
-    /// Whether the client has a seat, waits for one, or waits with a long first line.
+    /// Returns whether the client has a seat, waits for one, or waits with a long first line.
     pub fn standing(&self) -> Standing {
         self.standing.get()
     }
@@ -56,9 +56,9 @@ impl<'a, R: Handle> Terms<'a, R> {
         self.standing.set(Standing::Seated);
     }
 
-    /// Sets how long the next read may wait: what is left of ten seconds, or the idle time of a
-    /// seated client. Fails if the ten seconds are over, or if too many clients hold a long first
-    /// line.
+    /// Sets how long the next read of the stream may wait: what is left of ten seconds, or the idle
+    /// time of a seated client. Fails if the ten seconds are over, or if too many clients hold a
+    /// long first line.
     pub fn allow(&self, stream: &TcpStream) -> io::Result<()> {
         if self.standing.get() == Standing::Seated {
             return self.allow_seated(stream);
@@ -69,7 +69,8 @@ impl<'a, R: Handle> Terms<'a, R> {
         stream.set_read_timeout(Some(time_left(&self.rt, self.deadline)?))
     }
 
-    /// The same for a client with a seat. The timeout is set once.
+    /// Sets how long a read may wait for a client with a seat: its idle time. Does so once, since
+    /// the timeout stays.
     fn allow_seated(&self, stream: &TcpStream) -> io::Result<()> {
         if self.is_told.replace(true) {
             return Ok(());
@@ -77,8 +78,8 @@ impl<'a, R: Handle> Terms<'a, R> {
         stream.set_read_timeout(self.idle)
     }
 
-    /// Lets the first line go on although it is longer than any line but a load. Fails if 8 waiting
-    /// clients do that already, because the host holds what each has sent.
+    /// Allows a first line that is longer than any line but a load. Fails if 8 waiting clients have
+    /// one already, because the host holds what each has sent.
     fn lengthen(&self) -> io::Result<()> {
         if !self.guests.lock(&self.rt).lengthen() {
             return Err(Error::from(ErrorKind::OutOfMemory));
@@ -87,13 +88,14 @@ impl<'a, R: Handle> Terms<'a, R> {
         Ok(())
     }
 
-    /// Counts bytes that were read.
+    /// Adds `count` bytes that were read to those of the client.
     pub fn came(&self, count: usize) {
         self.came.set(self.came.get().saturating_add(count));
     }
 }
 
-/// So many seconds from now.
+/// Returns the moment that is so many seconds from now. Fails if the clock fails, or if there is no
+/// such moment.
 pub fn deadline_in(clock: &impl Clock, seconds: u64) -> io::Result<Instant> {
     match Instant::now(clock)?.checked_add(Duration::from_secs(seconds)) {
         Some(deadline) => Ok(deadline),
@@ -101,7 +103,7 @@ pub fn deadline_in(clock: &impl Clock, seconds: u64) -> io::Result<Instant> {
     }
 }
 
-/// The time until `deadline`. Fails with `TimedOut` if none is left.
+/// Returns the time until `deadline`. Fails with `TimedOut` if none is left.
 pub fn time_left(clock: &impl Clock, deadline: Instant) -> io::Result<Duration> {
     let left = deadline.saturating_duration_since(Instant::now(clock)?);
     if left.is_zero() {

@@ -9,9 +9,9 @@ use cam6_planes::Side;
 use std::alloc::Global;
 use std::io::{BufRead, Write};
 
-/// Answers each line of the reader by one line, as a blank machine of this limit that gets all
-/// commands among them. Ends if the input ends, if something fails, or if the reads run out. Each
-/// call of `fill_buf` takes one of `reads_left`.
+/// Makes a blank machine of this limit. It does the command of each line of the reader, and answers
+/// it by one line. Ends if the input ends, if something fails, or if the reads run out. Returns
+/// which. Each call of `fill_buf` takes one of `reads_left`.
 pub fn serve_alone<R: BufRead, W: Write>(
     alloc: Global,
     limit: Side,

@@ -39,7 +39,8 @@ pub trait Answerer {
     /// How it answers lines.
     ghost answering: { Answering state };
 
-    /// Answers a whole line by one line of text, or returns why serving stops there.
+    /// Answers a whole line by one line of text, which it writes. If it can't, returns why serving
+    /// stops there.
     fn respond<W: Write>(
         &mut self,
         alloc: Global,
@@ -71,6 +72,8 @@ impl<D: Ask> Answerer for D {
 
     ghost answering = { by_machine };
 
+    /// Does the command of a whole line, and writes the reply as a line. If the line has no
+    /// command, writes its fault. If it can't write that, returns why serving stops there.
     fn respond<W: Write>(
         &mut self,
         alloc: Global,
@@ -91,7 +94,7 @@ impl<D: Ask> Answerer for D {
     }
 }
 
-/// Returns the command that a line says, or the line's fault.
+/// Returns the command that a line is read as, or the line's fault.
 fn read_request(alloc: Global, line: &LineBuf) -> Result<Command, LineFault>
     ensures said { (l : List ℕ) → Holds line.now l → IsSaid result (what_is_said l) }
     ensures memory { (l : List ℕ) → Holds line.now l → result ≡ Err NoMemory → TakesMemory l }
@@ -102,8 +105,9 @@ fn read_request(alloc: Global, line: &LineBuf) -> Result<Command, LineFault>
     read_command(alloc, bytes)
 }
 
-/// Has the command done, and writes its reply as a line. If an allocation fails, returns whether
-/// the command was done.
+/// Does the command at the desk, and writes its reply as a line. If an allocation or the write
+/// fails, returns why serving stops there. After a failed allocation that tells whether the command
+/// was done.
 fn respond_to<W: Write, D: Ask>(
     alloc: Global,
     command: Command,
@@ -123,7 +127,8 @@ fn respond_to<W: Write, D: Ask>(
     tell_reply(alloc, &reply, writer)
 }
 
-/// Writes a reply as a line. Allocates nothing for a reply that only says what was done.
+/// Writes a reply as a line. Allocates nothing for a reply that only says what was done. If an
+/// allocation or the write fails, returns why serving stops there.
 fn tell_reply<W: Write>(alloc: Global, reply: &Reply, writer: &mut W) -> Result<(), Stop>
     ensures { TellsText result (reply_bytes reply.now)
         (W.contents writer.old) (W.contents writer.new) }
@@ -138,8 +143,8 @@ fn tell_reply<W: Write>(alloc: Global, reply: &Reply, writer: &mut W) -> Result<
     tell(writer, text)
 }
 
-/// Answers a line that says no command by its fault. If that is `NoMemory`, writes nothing and
-/// stops.
+/// Writes the fault of a line that has no command, as a line. If the fault is `NoMemory`, writes
+/// nothing and stops.
 fn respond_fault<W: Write>(fault: LineFault, writer: &mut W) -> Result<(), Stop>
     ensures { (l : List ℕ) (m : Machine) → IsFaultOf fault (what_is_said l) →
         (fault ≡ NoMemory → TakesMemory l) →
@@ -148,7 +153,7 @@ fn respond_fault<W: Write>(fault: LineFault, writer: &mut W) -> Result<(), Stop>
     tell_fault(fault, writer)
 }
 
-/// Writes a line's fault. If the fault is `NoMemory`, writes nothing and stops.
+/// Writes a line's fault as a line. If the fault is `NoMemory`, writes nothing and stops.
 pub(crate) fn tell_fault<W: Write>(fault: LineFault, writer: &mut W) -> Result<(), Stop>
     ensures { TellsFault result fault (W.contents writer.old) (W.contents writer.new) }
 {
@@ -161,8 +166,8 @@ pub(crate) fn tell_fault<W: Write>(fault: LineFault, writer: &mut W) -> Result<(
     }
 }
 
-/// Writes the text and an LF. If there is no memory for the LF, writes nothing and stops with
-/// `done: true`.
+/// Writes the text and an LF. If there is no memory for the LF, writes nothing and returns `Stop`
+/// with `done: true`.
 pub(crate) fn tell<W: Write>(writer: &mut W, text: String) -> Result<(), Stop>
     ensures { TellsText result (string_bytes text) (W.contents writer.old) (W.contents writer.new) }
 {

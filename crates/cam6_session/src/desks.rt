@@ -21,7 +21,7 @@ pub trait Ask {
     /// Whether it may be asked.
     ghost is_ready: { Self → Type 0 };
 
-    /// Does the command and replies. If it runs out of memory, it stays where it stood.
+    /// Does the command and returns its reply. If an allocation fails, nothing changes.
     fn ask(&mut self, command: Command) -> Result<Reply, NoMemory>
         requires { is_ready self.old }
         ensures reply { IfOk result (λ r. r ≡ reply (stands_at self.old) command) }
@@ -45,7 +45,7 @@ impl Ask for Machine {
     // A machine may always be asked.
     ghost is_ready = { λ _. ⊤ };
 
-    /// Does the command and replies. If it runs out of memory, it stays as it was.
+    /// Does the command and returns its reply. If an allocation fails, the machine is as it was.
     fn ask(&mut self, command: Command) -> Result<Reply, NoMemory>
         ensures reply { IfOk result (λ r. r ≡ reply (machine_of self.old) command) }
         ensures machine { OnOk result (machine_of self.new
@@ -66,7 +66,8 @@ pub trait Waiter {
     ghost use Rattle.cam6_handoff.specs.Standing.{IsResting};
     ghost use Rattle.cam6_handoff.specs.Desks.{AskGives, WantsNone};
 
-    /// The reply to a command, as `Desk::ask` gives it.
+    /// Does a command at a desk, and returns its reply, as `Desk::ask` does. May wait in its own
+    /// way for the command's steps.
     fn ask(&self, desk: &mut Desk, command: Command) -> Result<Reply, NoMemory>
         requires { IsResting desk.old }
         ensures gives { IfOk result (λ reply. AskGives desk.old command reply desk.new) }
@@ -86,7 +87,8 @@ impl<R: Wait> Waiter for Unaided<R> {
     ghost use Rattle.cam6_handoff.specs.Standing.{IsResting};
     ghost use Rattle.cam6_handoff.specs.Desks.{AskGives, WantsNone};
 
-    /// The reply to a command, as `Desk::ask` gives it.
+    /// Does a command at a desk, and returns its reply, by `Desk::ask`. Waits for the command's
+    /// steps by the runtime's handle alone.
     fn ask(&self, desk: &mut Desk, command: Command) -> Result<Reply, NoMemory>
         requires { IsResting desk.old }
         ensures gives { IfOk result (λ reply. AskGives desk.old command reply desk.new) }
@@ -119,8 +121,8 @@ impl<W: Waiter> Ask for AtDesk<W> {
     // A desk may be asked while it doesn't wait, and no longer waits when it has answered.
     ghost is_ready = { λ d. IsResting d.desk };
 
-    /// Has the waiter ask the desk, and replies. Waits for the command's steps, whichever boards do
-    /// them. If it runs out of memory, it stays where it stood.
+    /// Does a command at the desk, and returns its reply. The waiter waits for the command's steps,
+    /// whichever boards do them. If an allocation fails, the desk is as it was.
     fn ask(&mut self, command: Command) -> Result<Reply, NoMemory>
         requires { IsResting self.old.desk }
         ensures reply { IfOk result (λ r. r ≡ reply (machine_at self.old.desk) command) }

@@ -35,7 +35,7 @@ impl LineBuf {
     ghost use Rattle.cam6_session.specs.Held.{Holds, Grows, is_empty};
     ghost use Rattle.cam6_session.specs.Reading.{IsLongLoad};
 
-    /// An empty line, with room for all that will be kept of any line but a load.
+    /// Makes an empty line, with room for any line that isn't a load.
     pub fn new(alloc: Global) -> Result<LineBuf, NoMemory>
         ensures ok { IfOk result (λ line. Holds line []) }
     {
@@ -45,7 +45,7 @@ impl LineBuf {
         })
     }
 
-    /// Begins a new line, and gives back the memory that a load took.
+    /// Empties the line, and frees the memory that a load took.
     pub fn clear(&mut self)
         ensures { Holds self.new [] }
     {
@@ -54,7 +54,7 @@ impl LineBuf {
         self.is_long = false;
     }
 
-    /// Adds a part at the line's end. If the line is then above its limit, keeps only that it is
+    /// Adds a part at the line's end. If the line is above its limit then, keeps only that it is
     /// too long. Allocates once, for a line that begins as a load and is longer than any other may
     /// be. If that fails, the line stays as it was.
     pub fn add(&mut self, part: &[u8]) -> Result<(), NoMemory>
@@ -89,7 +89,7 @@ impl LineBuf {
         self.is_long
     }
 
-    /// The line, unless it is above the limit.
+    /// Returns the line's bytes, or `None` if the line is above its limit.
     pub fn bytes(&self) -> Option<&[u8]>
         ensures { option_map (λ bytes. bytes.now) result
             ≡ (if self.now.is_long then None else Some self.now.bytes) }
@@ -102,7 +102,7 @@ impl LineBuf {
     }
 }
 
-/// Whether a line of these two parts is above its limit.
+/// Whether the line that is `front` and then `part` is above its limit.
 fn is_too_long(front: &[u8], part: &[u8]) -> bool
     requires { length front.now ≤ max_load_line }
     ensures { result ≡ nat_lt (limit_of (front.now ++ part.now))
@@ -115,7 +115,7 @@ fn is_too_long(front: &[u8], part: &[u8]) -> bool
     length > LOAD_LINE_LIMIT || !begins_load_in(front, part)
 }
 
-/// Makes room for so many more bytes. Allocates only if a load alone may be as long as that.
+/// Makes room for `more` more bytes. Allocates only if no line but a load may be as long as that.
 fn make_room(bytes: &mut Vec<u8>, more: usize) -> Result<(), NoMemory>
     requires room { max_line ≤ vec_capacity bytes.old }
     requires few { vec_len bytes.old + more ≤ max_load_line }

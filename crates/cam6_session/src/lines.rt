@@ -35,8 +35,8 @@ enum Part {
     NoMemory,
 }
 
-/// Reads one line into `line`, without its LF, in place of what was there. Each call of `fill_buf`
-/// takes one of `reads_left`.
+/// Reads one line into `line`, without its LF, and drops what was there. Returns whether a line was
+/// read, or why not. Each call of `fill_buf` takes one of `reads_left`.
 pub fn next_line<R: BufRead>(reader: &mut R, line: &mut LineBuf, reads_left: &mut u64) -> Line
     ensures line { Reads result (R.remaining reader.old) (R.remaining reader.new) line.new }
     ensures reads_left { CountsReads result reads_left.old reads_left.new }
@@ -46,8 +46,9 @@ pub fn next_line<R: BufRead>(reader: &mut R, line: &mut LineBuf, reads_left: &mu
     read_line(reader, line, reads_left, Extent::ToItsEnd)
 }
 
-/// Reads one line. Of a line that is too long it reads only enough to know that. Then it returns
-/// `Line::Ended`, and the line's rest is unread. Each call of `fill_buf` takes one of `reads_left`.
+/// Reads one line into `line`, without its LF, and returns whether a line was read, or why not. Of
+/// a line that is too long it reads only enough to know that. Then it returns `Line::Ended`, and
+/// the line's rest is unread. Each call of `fill_buf` takes one of `reads_left`.
 pub fn next_line_within<R: BufRead>(
     reader: &mut R,
     line: &mut LineBuf,
@@ -72,7 +73,7 @@ impl Extent {
     ghost use Rattle.std.specs.Prelude.{true};
     ghost use Rattle.cam6_session.specs.declared.lines.Extent.TheVariants.{UntilTooLong};
 
-    /// Whether so much of a line has been read that no more of it is needed.
+    /// Whether enough of a line has been read, so that no more of it is needed.
     fn is_met(self, line: &LineBuf) -> bool
         ensures { result ≡ true → (self ≡ UntilTooLong) × (line.now.is_long ≡ true) }
     {
@@ -83,7 +84,8 @@ impl Extent {
     }
 }
 
-/// Reads one line, to its end or until it is too long.
+/// Reads one line into `line`, to its end or until it is too long, as `extent` has it. Returns
+/// whether a line was read, or why not.
 fn read_line<R: BufRead>(
     reader: &mut R,
     line: &mut LineBuf,
@@ -114,7 +116,8 @@ fn read_line<R: BufRead>(
     Line::TurnBound
 }
 
-/// How reading a line ends at the end of the input.
+/// Returns how reading ends at the end of the input: with a last line, or with none if `line` is
+/// empty.
 fn at_end_of_input(line: &LineBuf) -> Line
     ensures { result ≡ (if is_empty line.now then Line.EndOfInput else Line.Last) }
 {
@@ -125,7 +128,8 @@ fn at_end_of_input(line: &LineBuf) -> Line
     }
 }
 
-/// Reads once. Takes what `fill_buf` shows up to the line's LF, and the LF too.
+/// Calls `fill_buf` once. Adds the bytes that it has to the line, up to the line's LF, and consumes
+/// them and the LF.
 fn take_part<R: BufRead>(reader: &mut R, line: &mut LineBuf) -> Part
     ensures { TakesPart result (R.remaining reader.old) (R.remaining reader.new) line.old line.new }
 {
@@ -149,7 +153,7 @@ fn take_part<R: BufRead>(reader: &mut R, line: &mut LineBuf) -> Part
     }
 }
 
-/// The number of bytes before the first LF, or of all bytes if there is none.
+/// Returns the number of bytes before the first LF, or of all bytes if there is none.
 fn line_len(bytes: &[u8]) -> usize
     ensures within { result ≤ length bytes.now }
     ensures before { HasNoLf (take result bytes.now) }

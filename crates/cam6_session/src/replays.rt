@@ -65,6 +65,8 @@ impl Answerer for Core {
 
     ghost answering = { by_core };
 
+    /// Does the event of a whole line, and writes its outcome as a line. If the line has no event,
+    /// writes its fault. If it can't write that, returns why serving stops there.
     fn respond<W: Write>(
         &mut self,
         alloc: Global,
@@ -83,7 +85,7 @@ impl Answerer for Core {
     }
 }
 
-/// Returns the event that a line says, or the line's fault.
+/// Returns the event that a line is read as, or the line's fault.
 fn read_request(alloc: Global, line: &LineBuf) -> Result<Event, LineFault>
     ensures said { (l : List ℕ) → Holds line.now l → IsSaid result (what_happens l) }
     ensures memory { (l : List ℕ) → Holds line.now l → result ≡ Err NoMemory → TakesMemory l }
@@ -94,7 +96,8 @@ fn read_request(alloc: Global, line: &LineBuf) -> Result<Event, LineFault>
     read_event(alloc, bytes)
 }
 
-/// Does the event, and writes its outcome as a line.
+/// Does the event, and writes its outcome as a line. If an allocation or the write fails, returns
+/// why serving stops there.
 fn respond_to<W: Write>(
     alloc: Global,
     event: Event,
@@ -108,7 +111,7 @@ fn respond_to<W: Write>(
     tell_outcome(alloc, &outcome, writer)
 }
 
-/// Writes the outcome of an event. Allocates only for the text of an event that was done.
+/// Writes the outcome of an event as a line. Allocates only for the text of an event that was done.
 fn tell_outcome<W: Write>(alloc: Global, outcome: &Outcome, writer: &mut W) -> Result<(), Stop>
     ensures told { TellsText result (outcome_bytes outcome.now)
         (W.contents writer.old) (W.contents writer.new) }
@@ -126,7 +129,8 @@ fn tell_outcome<W: Write>(alloc: Global, outcome: &Outcome, writer: &mut W) -> R
     }
 }
 
-/// Answers a line that says no event by its fault. If that is `NoMemory`, writes nothing and stops.
+/// Writes the fault of a line that has no event, as a line. If the fault is `NoMemory`, writes
+/// nothing and stops.
 fn respond_fault<W: Write>(fault: LineFault, writer: &mut W) -> Result<(), Stop>
     ensures { (l : List ℕ) (s : State) → IsFaultOf fault (what_happens l) →
         (fault ≡ NoMemory → TakesMemory l) →

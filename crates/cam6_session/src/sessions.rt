@@ -47,7 +47,7 @@ impl From<WriteFault> for Stop {
 
     ghost from_gives = { λ _ stop. stop ≡ WriteFault };
 
-    /// A write that fails stops serving.
+    /// Returns the reason to stop serving for a write that failed.
     fn from(_fault: WriteFault) -> Stop {
         Stop::WriteFault
     }
@@ -58,7 +58,7 @@ impl From<Stop> for End {
 
     ghost from_gives = { λ stop end. end ≡ end_at stop };
 
-    /// Serving ends for the reason for which it stopped.
+    /// Returns the end of a session whose serving stopped for this reason.
     fn from(stop: Stop) -> End {
         match stop {
             Stop::WriteFault => End::WriteFault,
@@ -67,9 +67,9 @@ impl From<Stop> for End {
     }
 }
 
-/// Answers each line of the reader by one line, as a machine that gets all commands among them.
-/// Ends if the input ends, if something fails, or if the reads run out. Each call of `fill_buf`
-/// takes one of `reads_left`.
+/// Does the command of each line at the desk, and answers it by one line. A line without a command
+/// is answered by its fault. Ends if the input ends, if something fails, or if the reads run out.
+/// Each call of `fill_buf` takes one of `reads_left`.
 pub fn serve<R: BufRead, W: Write, D: Ask>(
     alloc: Global,
     reader: &mut R,
@@ -90,8 +90,9 @@ pub fn serve<R: BufRead, W: Write, D: Ask>(
     answer_lines(alloc, reader, writer, desk, reads_left)
 }
 
-/// Answers each line of the reader by one line. Ends if the input ends, if something fails, or if
-/// the reads run out. Each call of `fill_buf` takes one of `reads_left`.
+/// Has the answerer answer each line of the reader by one line. Ends if the input ends, if
+/// something fails, or if the reads run out. Returns which. Each call of `fill_buf` takes one of
+/// `reads_left`.
 pub fn answer_lines<R: BufRead, W: Write, A: Answerer>(
     alloc: Global,
     reader: &mut R,

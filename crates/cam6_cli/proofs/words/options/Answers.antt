@@ -10,8 +10,8 @@ use Rattle.cam6_cli.proofs.words.options.Goals as goal
 pub returns-in_default-clause-refused : goal.returns-in_default-clause-refused
 returns-in_default-clause-refused c = (some_program.0, some_program.1, tt)
 
-pub mode_given-requires : goal.mode_given-requires
-mode_given-requires c =
+pub mode_options-requires : goal.mode_options-requires
+mode_options-requires c =
     (mode_of_matches (app_of c.in-Ok.command) _ c.in-Ok-try_get_matches_from.matches c.in-Ok.ensures
     c.in-Ok-try_get_matches_from.ensures.matches c.in-Ok-try_get_matches_from.ensures.kinds).0
 
@@ -21,7 +21,7 @@ returns-in-Ok-try_get_matches_from-clause-mode c =
     let mode = mode_of_matches (app_of c.in-Ok.command) _ c.in-Ok-try_get_matches_from.matches
     c.in-Ok.ensures c.in-Ok-try_get_matches_from.ensures.matches
     c.in-Ok-try_get_matches_from.ensures.kinds in
-    let has = subst (HasMode c.mode_given.result) mode.1 c.mode_given.ensures in
+    let has = subst (HasMode c.mode_options.result) mode.1 c.mode_options.ensures in
     (app_of c.in-Ok.command, c.in-Ok.ensures, has)
 
 pub returns-in-Ok-try_get_matches_from-clause-refused :
@@ -43,5 +43,5 @@ returns-in-Err-clause-refused c = (
 
 pub returns-in-Err-clause-slip : goal.returns-in-Err-clause-slip
 returns-in-Err-clause-slip c =
-    subst (EndsWith c.refusal.result) (c.told_of.ensures ∙ ap told_of c.slip_of.ensures)
+    subst (EndsWith c.refusal.result) (c.hint_of.ensures ∙ ap told_of c.slip_of.ensures)
     c.refusal.ensures.hint

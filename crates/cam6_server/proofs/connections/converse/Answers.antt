@@ -10,10 +10,10 @@ returns-in-Ok g c =
     let read = g.R.Read.remaining c.args.reader.now in
     let after = g.R.Read.remaining c.first_line.new.reader in
     let own = c.in-Ok.ensures.free.own in
-    seated c.seated.result c.in-Ok-Ok.user c.in-Ok.desk read after _ _ _ own
+    seated c.serve_at_desk.result c.in-Ok-Ok.user c.in-Ok.desk read after _ _ _ own
     (subst (λ (said : Result ℕ LineFault). FirstSays said read after) c.in-Ok-Ok.field-0-is
     c.in-Ok-Ok.ensures.read)
-    (c.seated.ensures c.in-Ok-Ok.user own)
+    (c.serve_at_desk.ensures c.in-Ok-Ok.user own)
 
 pub returns-in-Ok-Err : goal.returns-in-Ok-Err
 returns-in-Ok-Err g c =

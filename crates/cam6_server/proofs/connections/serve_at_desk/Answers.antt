@@ -1,4 +1,4 @@
-use Rattle.cam6_server.proofs.connections.seated.Goals as goal
+use Rattle.cam6_server.proofs.connections.serve_at_desk.Goals as goal
 
 pub returns : goal.returns
 returns g c = λ user own. (

@@ -1,4 +1,4 @@
-use Rattle.cam6_server.proofs.hosts.open.Goals as goal
+use Rattle.cam6_server.proofs.hosts.new_server.Goals as goal
 
 pub host_of-requires-clause-desks : goal.host_of-requires-clause-desks
 host_of-requires-clause-desks g c = λ i desk at. record {
