@@ -33,7 +33,8 @@ pub fn new_command<'a>(
         .version(VERSION)
 }
 
-/// Makes an option that is a number from `least` to `most`.
+/// Makes an option of this name whose value is a number from `least` to `most`, and `default` if
+/// there is none.
 pub fn number_option<'a>(
     alloc: Global,
     name: &'a str,
@@ -50,7 +51,7 @@ pub fn number_option<'a>(
         .default_value(default)
 }
 
-/// Makes `--side`, one of the three sides, and 256 by default.
+/// Makes the option `--side`, whose value is one of the three sides, and 256 by default.
 pub fn side_option<'a>(alloc: Global, help: &'a str) -> Arg<'a>
     ensures rule { (sides : TextsAt) × AreSides sides × (rule_of result ≡ option_of_sides sides) }
     ensures global { result.global ≡ false }
@@ -62,7 +63,7 @@ pub fn side_option<'a>(alloc: Global, help: &'a str) -> Arg<'a>
         .help(help)
 }
 
-/// Makes an option that takes one value, which help calls `value`.
+/// Makes an option of this name that takes any value, which help calls `value`.
 pub fn value_option<'a>(alloc: Global, name: &'a str, value: &'a str, help: &'a str) -> Arg<'a>
     ensures rule { rule_of result ≡ option_of_values name.now }
     ensures global { result.global ≡ false }

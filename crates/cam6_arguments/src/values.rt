@@ -8,7 +8,7 @@ ghost use Rattle.cam6_arguments.specs.Values.{number_at, number_by, number_said,
 use cam6_planes::Side;
 use clap::ArgMatches;
 
-/// Returns the first text that was passed to an option, or `None` if there is none.
+/// Returns the first text of an option, which may be its default, or `None` if it has none.
 pub fn text_at<'a>(matches: &ArgMatches<'a>, name: &str) -> Option<&'a str>
     ensures { option_map (λ text. text.now) result
         ≡ first_of name.now (rows_of (found_of matches.now)) }
@@ -16,7 +16,7 @@ pub fn text_at<'a>(matches: &ArgMatches<'a>, name: &str) -> Option<&'a str>
     matches.get_str(name)
 }
 
-/// Returns all texts that were passed to an option, or `None` if there is none.
+/// Returns all texts of an option, or `None` if it has none.
 pub fn texts_at<'m, 'a>(matches: &'m ArgMatches<'a>, name: &str) -> Option<&'m [&'a str]>
     ensures { option_map (λ words. texts words.now) result
         ≡ all_of name.now (rows_of (found_of matches.now)) }
@@ -24,8 +24,7 @@ pub fn texts_at<'m, 'a>(matches: &'m ArgMatches<'a>, name: &str) -> Option<&'m [
     matches.get_raw(name)
 }
 
-/// Returns the number that was passed to an option, or `None` if it isn't from `least` to `most`,
-/// or there is none.
+/// Returns the number of an option, or `None` if it has none from `least` to `most`.
 pub fn number_at(matches: &ArgMatches<'_>, name: &str, least: u64, most: u64) -> Option<u64>
     ensures number { result ≡ number_at name.now least most (rows_of (found_of matches.now)) }
     ensures within { IfSome result (λ number. (least ≤ number) × (number ≤ most)) }
@@ -33,7 +32,7 @@ pub fn number_at(matches: &ArgMatches<'_>, name: &str, least: u64, most: u64) ->
     number_of(text_at(matches, name)?, least, most)
 }
 
-/// Returns the side that was passed to `--side`, or `None` if that is no side.
+/// Returns the side of `--side`, or `None` if its text is no side.
 pub fn side_at(matches: &ArgMatches<'_>) -> Option<Side>
     ensures { result ≡ side_at (rows_of (found_of matches.now)) }
 {

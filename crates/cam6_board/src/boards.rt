@@ -36,7 +36,7 @@ pub trait Board: Drop {
     /// How often it failed.
     ghost fault_count: { Self → ℕ };
 
-    /// How often the board failed.
+    /// Returns how often the board failed.
     fn faults(&self) -> u64
         ensures { result ≡ fault_count self.now };
 

@@ -115,8 +115,8 @@ impl Board for FlakyBoard {
         }
     }
 
-    /// Loads the board, unless this call is one of the list. If it fails, returns the job's planes
-    /// as spare.
+    /// Loads the board. If this call is one of the list, fails, and returns the job's planes as
+    /// spare.
     fn load(&mut self, job: Job, tables: &Tables) -> Result<(), BoardFault>
         requires { self.old.load ≡ empty }
         // It fails exactly if this call is one of the list.
@@ -167,7 +167,8 @@ impl Board for FlakyBoard {
         Ok(job.band(self.tables.as_slice(), &mut self.scratch))
     }
 
-    /// Takes the job's image off the board. If this call is one of the list, the image is lost.
+    /// Takes the job's image off the board and returns it. If this call is one of the list, fails,
+    /// and the image is lost.
     fn unload(&mut self) -> Result<Image, BoardFault>
         requires { IsLoaded self.old.load }
         ensures fails { is_err result ≡ is_due self.old.due }

@@ -29,7 +29,7 @@ impl Image {
     ghost use Rattle.cam6_board.specs.Images.{planes_in, rows_of, is_rest, IsOnTheWay};
     ghost use Rattle.cam6_board.specs.Images.{IsAfterBand, GoesOn};
 
-    /// The largest side that the image may have.
+    /// Returns the largest side that the image may have.
     pub fn limit(&self) -> Side
         ensures { result ≡ (planes_in self.now).limit }
     {
@@ -39,7 +39,7 @@ impl Image {
         }
     }
 
-    /// The side of the planes, in the middle of a step too.
+    /// Returns the side of the planes, at rest or in the middle of a step.
     pub fn side(&self) -> Side
         ensures { result ≡ (planes_in self.now).side }
     {

@@ -59,7 +59,7 @@ impl Job {
         self.image.image()
     }
 
-    /// The cycle along which the steps go.
+    /// Returns the cycle along which the steps go.
     pub fn cycle(&self) -> &Cycle
         ensures { result.now ≡ self.now.cycle }
     {

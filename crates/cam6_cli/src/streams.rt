@@ -17,7 +17,8 @@ use std::io::{BufRead, Write};
 const READS: u64 = 1_099_511_627_776;
 
 /// Makes a blank machine of this limit. It does the command of each line of the reader, and answers
-/// it by one line. Ends if the input ends or something fails, and returns which.
+/// it by one line. A line without a command is answered by its fault. Ends if the input ends or
+/// something fails, and returns which.
 pub fn serve_streams<R: BufRead, W: Write>(
     alloc: Global,
     limit: Side,

@@ -84,8 +84,8 @@ A session to try, with one command, which lists the rules:
   cam6 serve &
   printf '{\"seat\":1}\\n{\"do\":\"rules\"}\\n' | nc -N 127.0.0.1 6006";
 
-/// Returns what the words of the command line ask for, or why they are refused. The first is the
-/// program's name.
+/// Returns what the words of the command line ask for: the mode and its settings. If they are
+/// refused, returns why. The first word is the program's name.
 pub fn options(alloc: Global, words: &[String]) -> Result<Options, Refused>
     // For a simple command, clap's matches and the kinds of its errors are functions of the words.
     ensures mode { IfOk result (λ options. (app : App) × IsProgram app

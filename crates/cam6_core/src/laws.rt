@@ -3,8 +3,8 @@ ghost use Rattle.cam6_core.specs.Headline.{RepliesAreOfCommands};
 ghost use Rattle.cam6_core.specs.Laws.{GoingThroughIsEnough};
 
 /// If the core was new, events one after another give each user their private machine's replies.
-/// The user gets no reply to the last command while it is under way. The outcomes are those of each
-/// model of a core that agreed with the core before.
+/// Only the last reply may be missing, if it isn't collected yet. The outcomes are the model's,
+/// whatever model the core agreed with.
 pub fn events_in_turn_give_the_private_replies()
     ensures law { GoingThroughIsEnough }
 {}

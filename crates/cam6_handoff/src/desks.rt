@@ -105,7 +105,7 @@ impl Desk {
         Some(reply)
     }
 
-    /// Does a command and returns its reply. Waits if a board does its steps. If an allocation
+    /// Does a command and returns its reply. Waits if a board has to do its steps. If an allocation
     /// fails, the desk is as it was.
     pub fn ask<R: Wait>(&mut self, rt: &R, command: Command) -> Result<Reply, NoMemory>
         requires { IsResting self.old }

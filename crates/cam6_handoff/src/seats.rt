@@ -81,8 +81,9 @@ impl BoardSeat {
         Ok(queue_of(table, self.users, permit))
     }
 
-    /// Takes the command of `user`, counted from 1, if it waits for a board, and returns it to be
-    /// loaded. If it doesn't wait, returns `None`, and the seat still holds nothing.
+    /// Takes the command of `user`, counted from 1, if it waits for a board. Returns its lease, and
+    /// the job to load the board with. If it doesn't wait, returns `None`, and the seat still holds
+    /// nothing.
     pub fn try_take(&mut self, user: usize) -> Option<(Lease, Job)>
         requires idle { IsIdle self.old }
         requires a_user { 0 < user }
@@ -166,7 +167,7 @@ impl BoardSeat {
         true
     }
 
-    /// Whether the user's command, if it waits, must wait longer: another seat makes many tables,
+    /// Whether a command of the user must wait longer for a board: another seat makes many tables,
     /// and the user's last command made many too.
     pub fn is_held_back(&self, user: User) -> bool {
         self.permit.holds_back(user.row())

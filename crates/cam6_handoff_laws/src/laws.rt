@@ -47,7 +47,8 @@ pub fn a_collect_is_a_collect()
     ensures law { CollectIsCollect }
 {}
 
-/// A take or a collect that finds another word changes nothing, and is no event.
+/// A take that finds no waiting command, or a collect that finds no finished one, changes nothing,
+/// and is no event.
 pub fn a_look_is_no_event()
     ensures law { LookIsNoEvent }
 {}
@@ -57,32 +58,34 @@ pub fn a_first_take_is_no_event()
     ensures law { FirstTakeIsNoEvent }
 {}
 
-/// If threads are where a model of the core is, an action of a thread is the action's events.
+/// If the threads are where a model of the core is, an action of a thread has the effect of the
+/// action's events on the model.
 pub fn an_action_is_its_events()
     ensures law { ActionIsEvents }
 {}
 
-/// At the beginning the threads are where the model of a new core is.
+/// After `boot` the threads are where the model of a new core is.
 pub fn threads_begin_at_a_new_core()
     ensures law { BeginsAtFresh }
 {}
 
-/// All actions from the beginning on are one list of events of a new core.
+/// All actions of the threads, from the beginning on, have the effect of one list of events on the
+/// model of a new core.
 pub fn an_execution_is_a_list_of_events()
     ensures law { ExecutionIsEvents }
 {}
 
-/// Each desk gives the replies of a private machine to the commands that were put there.
+/// Each desk gives the replies of a private machine to the commands that were put at the desk.
 pub fn desks_give_the_replies()
     ensures law { DesksGiveTheReplies }
 {}
 
-/// What a desk collects is the private machine's reply to what the desk waits for.
+/// The reply that a desk collects is the private machine's reply to the command that was put there.
 pub fn what_is_collected_is_the_reply()
     ensures law { CollectedIsGiven }
 {}
 
-/// What a board took stands for what its user waits for.
+/// The command that a board's seat took stands for the command that its user put.
 pub fn a_taken_place_stands()
     ensures law { TakenPlaceStands }
 {}

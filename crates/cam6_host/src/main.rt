@@ -35,7 +35,7 @@ cam6: type one command per line, such as {\"do\":\"rules\"}. Ctrl-D ends. Comman
 const EVENTS_ARE_TYPED: &str = "\
 cam6: type one event per line, such as {\"event\":\"evict\"}. Ctrl-D ends. Events: docs/SERVER.md. Faults: docs/ERRORS.md.\n";
 
-/// Runs the program on the host, which has a network for `cam6 serve`.
+/// Runs the program and returns its exit status. The host's runtime has a network for `cam6 serve`.
 fn main(rt: HostRuntime) -> ExitCode {
     run(
         &rt,
@@ -70,7 +70,7 @@ fn options_given<R: Env + AllocGlobal>(rt: &R) -> Result<Options, Refused> {
     options(rt.alloc(), words.as_slice())
 }
 
-/// Writes a greeting on standard error if the input is typed at a terminal.
+/// Writes `text` on standard error if the input is typed at a terminal.
 fn greet(rt: &impl Eprint, input: &impl IsTerminal, text: &str) {
     if input.is_terminal() {
         // The session goes on if the greeting can't be written.

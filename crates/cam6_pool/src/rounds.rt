@@ -30,14 +30,15 @@ impl Round {
         }
     }
 
-    /// Begins a new round, at the user after the one whose command was taken last.
+    /// Begins a new round of looks at all users, at the user after the one whose command was taken
+    /// last.
     pub(crate) fn begin(&mut self)
         ensures { self.new ≡ record self.old { passed = 0 } }
     {
         self.passed = 0;
     }
 
-    /// Whether the round has passed over all users.
+    /// Whether the round has passed over as many users as there are.
     pub(crate) fn is_over(&self) -> bool
         ensures { IsTrue result ↔ (self.now.seat.users ≤ self.now.passed) }
     {

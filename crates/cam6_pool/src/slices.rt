@@ -104,8 +104,8 @@ impl<R: Wait + Clock + Drop> SlicingGate<R> {
         })
     }
 
-    /// Wakes one board that sleeps, since a command was put. If no board sleeps, the next one that
-    /// would sleep doesn't.
+    /// Wakes one board that sleeps, since a command was put. A board that is awake doesn't sleep
+    /// when it is idle next.
     pub fn ring(&self) -> Rung {
         let mut rings = self.bell.lock(&self.rt);
         *rings = rings.wrapping_add(1);
@@ -113,8 +113,8 @@ impl<R: Wait + Clock + Drop> SlicingGate<R> {
         Rung(())
     }
 
-    /// Stops each worker that asks from now on, and wakes those that sleep. Doesn't wait until they
-    /// have ended.
+    /// Ends the workers: `turn` returns `Stop` and `idle` returns false from now on. Wakes the
+    /// boards that sleep. Doesn't wait until the workers have ended.
     pub fn stop(&self) {
         self.stopping.store(true, Ordering::SeqCst);
         let mut rings = self.bell.lock(&self.rt);
@@ -140,9 +140,9 @@ impl<R: Wait + Clock + Drop> SlicingGate<R> {
 }
 
 impl<R: Wait + Clock + Drop> Gate for SlicingGate<R> {
-    /// Returns `Stop` once `stop` was called. Returns `Preempt` for a command that has had its
-    /// time, if another one waits that may have a board, and else `Go`. Rings at a command's first
-    /// band if another one waits.
+    /// Returns the gate's verdict before a band. It is `Stop` once `stop` was called. It is
+    /// `Preempt` for a command that has had its time, if another command waits that isn't held
+    /// back. Else it is `Go`. Rings at a command's first band if another one waits.
     fn turn(&self, board: u8, user: u8, band: u8) -> Turn {
         if self.stopping.load(Ordering::SeqCst) {
             return Turn::Stop;
@@ -164,8 +164,9 @@ impl<R: Wait + Clock + Drop> Gate for SlicingGate<R> {
         Turn::Go
     }
 
-    /// Sleeps until it is rung, or for a while, unless a command waits that may have a board.
-    /// Returns false once `stop` was called, or if there is no such board.
+    /// Sleeps until the gate is rung, for 100 milliseconds at most, unless a command waits that
+    /// isn't held back. Returns false, so that the worker ends, once `stop` was called or if there
+    /// is no such board.
     fn idle(&self, board: u8) -> bool {
         let Some(slice) = self.slices.get(usize::from(board)) else {
             return false;

@@ -108,8 +108,8 @@ fn read_request(alloc: Global, line: &LineBuf) -> Result<u64, LineFault>
     read_seat(alloc, bytes)
 }
 
-/// Writes the answer to a first line that is refused. Returns `Refused`, or `Unheard` if the answer
-/// can't be written whole.
+/// Writes the answer to a first line that gets no seat. Returns `Refused`, or `Unheard` if the
+/// answer can't be written whole.
 fn refuse<W: Write>(writer: &mut W, answer: &str) -> Visit
     ensures { AnswersOnly result answer.now (W.contents writer.old) (W.contents writer.new) }
 {

@@ -89,8 +89,7 @@ impl Guests {
         true
     }
 
-    /// Notes that a waiting client, which holds no long line, has its seat. It counts as seated and
-    /// no longer as waiting.
+    /// Counts one waiting client, which holds no long line, as seated, and no longer as waiting.
     pub fn sit(&mut self)
         ensures { Sits self.old self.new }
     {
@@ -121,7 +120,7 @@ impl Guests {
         self.waiting == 0 && self.seated == 0
     }
 
-    /// Whether any client has ever had a seat.
+    /// Whether any client has had a seat since the host began.
     pub fn was_seated(&self) -> bool
         ensures { result ≡ self.now.was_seated }
     {

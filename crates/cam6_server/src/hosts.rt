@@ -150,9 +150,9 @@ fn start<R: Handle + Send + Sync + 'static>(
     }
 }
 
-/// Accepts so many connections, or connections without end if the number is 0. Then closes the
-/// listener, and waits until no client is connected. Fails if accepting fails for a second, and no
-/// client has ever had a seat.
+/// Accepts so many connections, or connections without end if the number is 0, and starts a thread
+/// for each. Then closes the listener, and waits until no client is connected. Fails if accepting
+/// fails for a second, and no client has ever had a seat.
 fn accept<R: Handle + Eprint + Send + Sync + 'static>(
     rt: R,
     server: &Arc<ServerState<R>>,

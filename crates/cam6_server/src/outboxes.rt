@@ -92,7 +92,7 @@ impl<W: Write + Drop> Write for Outbox<W> {
         taken
     }
 
-    /// Sends nothing: `release` sends what is held back. Fails if the outbox is broken.
+    /// Does nothing, since `release` sends what is held back. Fails if the outbox is broken.
     fn flush(&mut self) -> io::Result<()>
         ensures bytes { Keeps (written W.contents self.old) (written W.contents self.new) }
         ensures same { self.new ≡ self.old }

@@ -91,7 +91,7 @@ impl Places {
         }
     }
 
-    /// Gives a desk back to its user's place. No other call takes a desk at which somebody sits.
+    /// Puts a desk back at its user's place, so that it can be taken again.
     pub fn give_back<W: Drop>(&mut self, desk: SeatedDesk<W>)
         requires { IsResting desk }
         ensures { GivesBack self.old desk self.new }

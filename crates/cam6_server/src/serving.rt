@@ -106,7 +106,7 @@ impl From<NoMemory> for Fault {
 
     ghost from_gives = { λ _ fault. fault ≡ NoMemory };
 
-    /// A failed allocation becomes the host's fault `NoMemory`.
+    /// Returns the host's fault `NoMemory` for a failed allocation.
     fn from(_refused: NoMemory) -> Fault {
         Fault::NoMemory
     }

@@ -34,7 +34,7 @@ pub struct ServerState<R: Handle> {
 }
 
 impl<R: Handle> ServerState<R> {
-    /// Lets one more client wait for a seat, or returns false if there is no room.
+    /// Counts one more client that waits for a seat, or returns false if there is no room for it.
     pub fn enter(&self) -> bool {
         self.guests.lock(&self.host.rt).enter()
     }

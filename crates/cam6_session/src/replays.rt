@@ -23,8 +23,9 @@ use cam6_writing::send;
 use std::alloc::Global;
 use std::io::{BufRead, Write};
 
-/// Does the event of each line of the reader, and writes its outcome as one line. Ends if the input
-/// ends, if something fails, or if the reads run out. Each call of `fill_buf` takes one of `reads_left`.
+/// Does the event of each line of the reader, and writes its outcome as one line. A line without an
+/// event is answered by its fault. Ends if the input ends, if something fails, or if the reads run
+/// out. Returns which. Each call of `fill_buf` takes one of `reads_left`.
 pub fn replay<R: BufRead, W: Write>(
     alloc: Global,
     reader: &mut R,

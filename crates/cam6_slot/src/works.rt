@@ -56,7 +56,8 @@ impl Work {
     ghost use Rattle.cam6_slot.specs.Needs.{needs_of};
     ghost use Rattle.cam6_slot.specs.Works.{IsWork, begun, one_on, home_at, back_home};
 
-    /// Begins a command of so many steps. None is done, and the machine's image is at home.
+    /// Makes a command of so many steps. None is done yet, and `home` is the machine's image at
+    /// home.
     pub(crate) fn begin(kept: Kept, direction: Direction, total: u16, home: AtRest) -> Work
         requires some { 0 < total }
         requires within { kept.position < length kept.cycle }

@@ -39,7 +39,7 @@ impl From<AllocError> for LineFault {
 
     ghost from_gives = { λ _ e. e ≡ NoMemory };
 
-    /// A refused allocation becomes `NoMemory`, which is no fault of the line.
+    /// Returns `NoMemory` for a failed allocation, which is no fault of the line.
     fn from(_refused: AllocError) -> LineFault {
         LineFault::NoMemory
     }

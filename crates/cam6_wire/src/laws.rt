@@ -83,7 +83,7 @@ pub fn an_outcome_is_one_line()
     ensures law { OutcomeIsLine }
 {}
 
-/// The text of the answer to a first line is one line.
+/// The text of the answer to a first line has no LF.
 pub fn a_seating_is_one_line()
     ensures law { SeatingIsLine }
 {}

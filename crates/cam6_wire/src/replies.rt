@@ -34,7 +34,7 @@ const HEX_DIGITS: [u8; 16] = *b"0123456789abcdef";
 /// The bytes of the longest reply that shows a row, with its LF, and a few more.
 const SHORT_LINE: usize = 160;
 
-/// Returns the line of a reply, without its LF.
+/// Returns the line that reports a reply, without its LF.
 pub fn reply_text(alloc: Global, reply: &Reply) -> Result<String, NoMemory>
     ensures text { IfOk result (λ text. string_bytes text ≡ reply_bytes reply.now) }
     ensures value { IfOk result (λ text. read (string_bytes text) ≡ Some (reply_data reply.now)) }
