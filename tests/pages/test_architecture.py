@@ -16,8 +16,8 @@ ARCHITECTURE = text_of("docs/ARCHITECTURE.md")
 STEPS = [
     ("put", "put", "swap::<Putting>"),
     ("try_take", "take", "compare_exchange::<Taking>"),
-    ("put_back", "back", "swap::<GivingBack>"),
-    ("put_done", "done", "swap::<GivingDone>"),
+    ("put_back", "give_back", "swap::<GivingBack>"),
+    ("put_done", "give_done", "swap::<GivingDone>"),
     ("try_collect", "collect", "compare_exchange::<Collecting>"),
 ]
 # The sources of cam6_handoff by their names, without comments.
