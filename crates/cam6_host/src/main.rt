@@ -1,10 +1,10 @@
 //! The program `cam6`: command lines on standard input, or lines of events, one line of an answer
 //! for each on standard output; or command lines of many users over connections.
 //!
-//! Contract: `closed` and `ended` end with the exit statuses of `cam6_cli`, for a host that can't
-//! go on, and for each end of a session. `refuse` of `cam6_arguments` ends for arguments that ask
-//! for nothing. `cam6_cli` says what the arguments ask for, and what is written for what is read.
-//! `cam6_server` says what `serve_net` writes to users over connections.
+//! Contract: `report_fault` and `end_session` end with the exit statuses of `cam6_cli`, for a host
+//! that can't go on, and for each end of a session. `refuse` of `cam6_arguments` ends for arguments
+//! that ask for nothing. `cam6_cli` says what the arguments ask for, and what is written for what
+//! is read. `cam6_server` says what `serve_net` writes to users over connections.
 //!
 //! Stands on: `cam6_cli` and `cam6_arguments`; `cam6_session`, `cam6_server` and `cam6_planes` for
 //! what it hands on.
