@@ -41,7 +41,7 @@ pub(crate) struct Pair {
 
 /// Finds the least state that has the same successor as a smaller one. Returns it as `b`, and the
 /// smaller one as `a`. Returns `None` if no two states have one successor.
-pub(crate) fn meeting(table: &Table, hood: Hood, minor: Minor, phase: Phase) -> Option<Pair>
+pub(crate) fn find_meeting(table: &Table, hood: Hood, minor: Minor, phase: Phase) -> Option<Pair>
     requires margolus { is_margolus hood ≡ true }
     ensures some { IfSome result (λ pair.
         IsMeeting (block_map (by_table hood minor table.now) phase) pair.a pair.b) }
