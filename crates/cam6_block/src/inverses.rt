@@ -40,7 +40,7 @@ pub fn invert(table: &Table, hood: Hood, minor: Minor, out: &mut Table) -> Resul
             return Err(NotReversible::Meeting { phase, a, b });
         }
     }
-    fill_hidden(out);
+    keep_hidden_centres(out);
     fill_shown(table, hood, minor, out);
     out.quicken(hood, minor);
     Ok(())
@@ -48,7 +48,7 @@ pub fn invert(table: &Table, hood: Hood, minor: Minor, out: &mut Table) -> Resul
 
 /// Writes to each address of `out` its own two lowest bits, which are the centre. So a cell keeps
 /// its bits at an address that no corner sees.
-fn fill_hidden(out: &mut Table)
+fn keep_hidden_centres(out: &mut Table)
     ensures whole { length out.new ≡ addresses }
     ensures entries { (address : ℕ) → address < addresses →
         slice_index out.new address ≡ address % 4 }

@@ -70,7 +70,7 @@ impl Program {
         requires { length entries.now ≡ 2 ^ LINES }
         ensures { IfSome result (λ program. Computes entries.now program) }
     {
-        let program = shortest(entries)?;
+        let program = least_work(entries)?;
         if agrees(&program, entries) {
             Some(program)
         } else {
@@ -198,7 +198,7 @@ fn reads_slot(source: Option<Source>) -> bool
 
 /// Returns the program with the least work of those that are tried for the entries, or `None` if
 /// none is short enough. Nothing checks yet that it computes the entries.
-fn shortest(entries: &[u8]) -> Option<Program>
+fn least_work(entries: &[u8]) -> Option<Program>
     requires { length entries.now ≡ 2 ^ LINES }
 {
     let plain = program_of(Diagram::of(entries, Order::Rising));
@@ -218,7 +218,7 @@ fn shortest(entries: &[u8]) -> Option<Program>
 /// Returns the first program if it has less work than the second, and else the second. `None` has
 /// the most work.
 fn lesser(first: Option<Program>, second: Option<Program>) -> Option<Program> {
-    if work_of(&first) < work_of(&second) {
+    if work_or_most(&first) < work_or_most(&second) {
         first
     } else {
         second
@@ -234,7 +234,7 @@ fn program_of(diagram: Result<Diagram, TooLong>) -> Option<Program>
 }
 
 /// Returns the work of a program, or the largest number for `None`.
-fn work_of(program: &Option<Program>) -> usize {
+fn work_or_most(program: &Option<Program>) -> usize {
     match program {
         Some(program) => program.work(),
         None => usize::MAX,

@@ -1,5 +1,5 @@
 use Rattle.std.proofs.Common.{◌≡◌, ◌<◌, ◌%◌, ℕ, length, slice_index}
-use Rattle.cam6_block.proofs.inverses.fill_hidden.Given as goal
+use Rattle.cam6_block.proofs.inverses.keep_hidden_centres.Given as goal
 
 abbrev pub invariant-loop-address : goal.invariant-loop-address
 invariant-loop-address l = record {
