@@ -1,6 +1,6 @@
 // Hosts and sockets for tests. A connection can be cut at each message, before or after it is done.
 
-import { PlainMachine } from './plain_machine.mjs';
+import { OracleMachine } from './oracle_machine.mjs';
 
 /** What is at the other end of sockets: machines of their own, or hosts with seats. */
 export class FakeNet {
@@ -12,17 +12,17 @@ export class FakeNet {
   /** @type {Map<number, 'before'|'after'>} */
   cuts = new Map();
   /** The machine at the last connection. */
-  machine = new PlainMachine();
+  machine = new OracleMachine();
   /** @type {string[]} */
   heard = [];
 
   /** @param {{hosts?: {seats: number, limit?: number, isUp?: boolean}[], limit?: number}} what */
   constructor({ hosts = [], limit = 512 } = {}) {
     this.limit = limit;
-    /** @type {{isUp: boolean, machines: PlainMachine[], taken: Set<number>}[]} */
+    /** @type {{isUp: boolean, machines: OracleMachine[], taken: Set<number>}[]} */
     this.hosts = hosts.map(({ seats, limit: most = 256, isUp = true }) => ({
       isUp,
-      machines: Array.from({ length: seats }, () => new PlainMachine(most)),
+      machines: Array.from({ length: seats }, () => new OracleMachine(most)),
       taken: new Set(),
     }));
     const net = this;
@@ -67,7 +67,7 @@ class FakeSocket {
   isOpen = false;
   /** @type {number|null} */
   seat = null;
-  /** @type {PlainMachine|null} */
+  /** @type {OracleMachine|null} */
   machine = null;
 
   /** @param {FakeNet} net @param {string} url */
@@ -88,7 +88,7 @@ class FakeSocket {
     this.isOpen = true;
     this.net.sockets.add(this);
     if (this.number === 0) {
-      this.machine = this.net.machine = new PlainMachine(this.net.limit);
+      this.machine = this.net.machine = new OracleMachine(this.net.limit);
     }
     this.onopen?.(new Event('open'));
   }

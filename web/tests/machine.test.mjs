@@ -1,19 +1,19 @@
 // The page's machine over connections that end anywhere: each command is done once in the machine that counts.
 
 import assert from 'node:assert/strict';
-import { test as plainTest } from 'node:test';
+import { test as nodeTest } from 'node:test';
 import { Machine } from '../machine.js';
 import { Fault, commandOf, cycle, drop, lineOf, machineIn, rule, set, side } from '../lines.js';
 import './detailed_event.mjs';
 import { FakeNet } from './fake_net.mjs';
 import { FakeStorage } from './fake_storage.mjs';
-import { BALLS, ECHOES, PARITY, PlainMachine } from './plain_machine.mjs';
+import { BALLS, ECHOES, OracleMachine, PARITY } from './oracle_machine.mjs';
 
 /**
  * A test that may take two minutes.
  * @type {(name: string, work: () => Promise<void>) => void}
  */
-const test = (name, work) => plainTest(name, { timeout: 120000 }, work);
+const test = (name, work) => nodeTest(name, { timeout: 120000 }, work);
 
 /**
  * A cycle of one rule of half A on the even grid and the odd one.
@@ -51,17 +51,17 @@ const rowsOf = machine => [0, 1, 2, 3].map(plane =>
 
 /**
  * The machine that the oracle saves.
- * @param {PlainMachine} plain
+ * @param {OracleMachine} oracle
  */
-const savedBy = plain => machineIn(plain.respond('{"do":"save"}'));
+const savedBy = oracle => machineIn(oracle.respond('{"do":"save"}'));
 
 /**
  * The model shows what the machine has.
  * @param {Machine} machine
- * @param {PlainMachine} plain
+ * @param {OracleMachine} oracle
  */
-function isSame(machine, plain) {
-  const saved = savedBy(plain);
+function isSame(machine, oracle) {
+  const saved = savedBy(oracle);
   assert.equal(machine.side, saved.side);
   assert.deepEqual(rowsOf(machine), saved.planes);
   assert.deepEqual(machine.rules, saved.rules);
@@ -132,17 +132,17 @@ const hostNet = () => {
 test('a session shows what the machine has, and steps are those of the rule', async () => {
   const { saved, count } = await unbroken(privateNet);
   assert.equal(count, 1);
-  const plain = new PlainMachine();
-  ECHO_LINES.forEach(line => assert.match(plain.respond(line), /^{"ok"/));
-  plain.respond('{"do":"run","n":5}');
-  [[3, 3, 1], [4, 3, 9], [200 - 128, 3, 2]].forEach(([x, y, state]) => plain.put(x, y, state));
-  plain.respond('{"do":"run","n":4}');
-  plain.rules[0].text = BALLS;
-  plain.position = 0;
-  plain.respond('{"do":"run","n":2}');
-  plain.position = 0;
-  plain.respond('{"do":"run","n":1}');
-  assert.deepEqual(saved.planes, savedBy(plain).planes);
+  const oracle = new OracleMachine();
+  ECHO_LINES.forEach(line => assert.match(oracle.respond(line), /^{"ok"/));
+  oracle.respond('{"do":"run","n":5}');
+  [[3, 3, 1], [4, 3, 9], [200 - 128, 3, 2]].forEach(([x, y, state]) => oracle.put(x, y, state));
+  oracle.respond('{"do":"run","n":4}');
+  oracle.rules[0].text = BALLS;
+  oracle.position = 0;
+  oracle.respond('{"do":"run","n":2}');
+  oracle.position = 0;
+  oracle.respond('{"do":"run","n":1}');
+  assert.deepEqual(saved.planes, savedBy(oracle).planes);
   assert.equal(saved.position, 1);
   assert.equal(saved.rules.length, 1);
 });
@@ -208,10 +208,10 @@ test('a page that is loaded again at each message goes on where it was', async (
     const again = machineOf(other, { storage: storage.copy() });
     await again.start();
     // What was noted is what the first page had asked for: the commands in order, each once.
-    const plain = new PlainMachine();
+    const oracle = new OracleMachine();
     const asked = linesOf(storage);
-    asked.forEach(line => plain.respond(line));
-    assert.deepEqual(savedBy(other.machine), savedBy(plain), `loaded again after message ${at}`);
+    asked.forEach(line => oracle.respond(line));
+    assert.deepEqual(savedBy(other.machine), savedBy(oracle), `loaded again after message ${at}`);
     isSame(again, other.machine);
     again.stop();
     machine.stop();
@@ -332,7 +332,7 @@ test('a load of a side that is too large has fault 67, and changes nothing', asy
   const machine = machineOf(net);
   await machine.start();
   await machine.setUp(ECHO_COMMANDS);
-  const large = new PlainMachine(512);
+  const large = new OracleMachine(512);
   large.respond(lineOf(side(512)));
   const before = savedBy(net.machine);
   await assert.rejects(machine.load(JSON.stringify({ do: 'load', machine: savedBy(large) })), { number: 67 });
@@ -354,12 +354,12 @@ test('a host that answers otherwise when commands are played again is reported',
   /** @type {{line: string, wanted: string, got: string}[]} */
   const messages = [];
   machine.on('diverged', detail => messages.push(detail));
-  const { do_run } = PlainMachine.prototype;
+  const { do_run } = OracleMachine.prototype;
   /** @param {{n: number}} command */
-  PlainMachine.prototype.do_run = function run({ n }) { return do_run.call(this, { n: n + 1 }); };
+  OracleMachine.prototype.do_run = function run({ n }) { return do_run.call(this, { n: n + 1 }); };
   net.cutAll();
   await machine.save();
-  PlainMachine.prototype.do_run = do_run;
+  OracleMachine.prototype.do_run = do_run;
   assert.deepEqual(messages, [{ line: '{"do":"run","n":1}', wanted: '{"ok":"run","position":1}', got: '{"ok":"run","position":0}' }]);
   isSame(machine, net.machine);
   machine.stop();
@@ -370,8 +370,8 @@ test('a command that ends each connection is left out, and the others are done',
   const machine = machineOf(net);
   await machine.start();
   await machine.setUp(ECHO_COMMANDS);
-  const { do_map } = PlainMachine.prototype;
-  PlainMachine.prototype.do_map = () => { setImmediate(() => net.cutAll()); throw new Error('ended'); };
+  const { do_map } = OracleMachine.prototype;
+  OracleMachine.prototype.do_map = () => { setImmediate(() => net.cutAll()); throw new Error('ended'); };
   const { arrived } = net.WebSocket.prototype;
   /** @param {string} line */
   net.WebSocket.prototype.arrived = function guarded(line) {
@@ -385,7 +385,7 @@ test('a command that ends each connection is left out, and the others are done',
   const ran = machine.run(3);
   await assert.rejects(colours, { number: 0 });
   await ran;
-  PlainMachine.prototype.do_map = do_map;
+  OracleMachine.prototype.do_map = do_map;
   assert.equal(machine.count, 3);
   isSame(machine, net.machine);
   machine.stop();
@@ -482,7 +482,7 @@ test('frames: two under way at most, none beside a command, and only planes that
 });
 
 /**
- * What JSON.parse is given while something is done. The plain machine has a JSON.parse of its own.
+ * What JSON.parse is given while something is done. The oracle machine has a JSON.parse of its own.
  * @param {() => Promise<void>} work
  */
 async function parsedBy(work) {
@@ -544,11 +544,11 @@ test('a stroke that is drawn while the machine runs changes only its own cells',
   const frames = [machine.frame(1), machine.frame(1)];
   await machine.paint(edited, base);
   await Promise.all(frames);
-  const plain = new PlainMachine();
-  ECHO_LINES.forEach(line => plain.respond(line));
-  plain.respond('{"do":"run","n":2}');
-  plain.put(100, 100, 5);
-  assert.deepEqual(rowsOf(machine), savedBy(plain).planes);
+  const oracle = new OracleMachine();
+  ECHO_LINES.forEach(line => oracle.respond(line));
+  oracle.respond('{"do":"run","n":2}');
+  oracle.put(100, 100, 5);
+  assert.deepEqual(rowsOf(machine), savedBy(oracle).planes);
   assert.equal(machine.count, 0);
   isSame(machine, net.machine);
   machine.stop();
@@ -629,10 +629,10 @@ test('journals are bounded: many commands and long runs bring a save', async () 
   const machine = machineOf(net);
   await machine.start();
   await machine.setUp(ECHO_COMMANDS);
-  const { do_run } = PlainMachine.prototype;
+  const { do_run } = OracleMachine.prototype;
   let steps = 0;
   /** @param {{n: number}} command */
-  PlainMachine.prototype.do_run = ({ n }) => {
+  OracleMachine.prototype.do_run = ({ n }) => {
     steps += n;
     return { position: n % 2 };
   };
@@ -645,7 +645,7 @@ test('journals are bounded: many commands and long runs bring a save', async () 
   net.cutAll();
   await machine.save();
   const again = net.heard.filter(line => line.includes('"run"')).map(line => JSON.parse(line).n);
-  PlainMachine.prototype.do_run = do_run;
+  OracleMachine.prototype.do_run = do_run;
   assert.ok(again.reduce((sum, n) => sum + n, 0) <= 2 * 65535, `played again: ${again}`);
   for (let i = 0; i < 1500; i++) {
     await machine.paint(painted(machine, [[3, 3, 1 + i % 2]]));

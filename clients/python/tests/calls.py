@@ -5,7 +5,7 @@ from __future__ import annotations
 import json
 from typing import Any
 
-import plain
+import by_oracle
 from fakes import load_of
 from hypothesis.stateful import RuleBasedStateMachine, rule
 from oracle.lines import Unclear, is_command, read_line
@@ -27,9 +27,9 @@ def wanted(command: dict[str, Any] | None, reply: bytes) -> Any:
     if "fault" in value:
         return value
     if word == "row":
-        return plain.bits_of(value["bits"])
+        return by_oracle.bits_of(value["bits"])
     if word == "plane":
-        return [plain.bits_of(row) for row in value["rows"]]
+        return [by_oracle.bits_of(row) for row in value["rows"]]
     return load_of(reply) if word == "save" else value[KEYS[word]] if word in KEYS else None
 
 
@@ -78,7 +78,7 @@ class Calls(Sessions):
     def call(self, command: dict[str, Any] | None, line: bytes, reply: bytes) -> None:
         """A call. What comes of it has to be what the reply says."""
         try:
-            got = plain.value(called(self.calls, command) if command else self.calls.ask(line))
+            got = by_oracle.value(called(self.calls, command) if command else self.calls.ask(line))
         except cam6.Fault as fault:
             assert type(fault) is FAULTS[fault.number]
             got = fault.reply
@@ -113,7 +113,7 @@ class Batches(Calls):
     def execute(self) -> None:
         """Does the calls, and compares what they return."""
         got = self.many.execute(raise_on_error=False)
-        assert [one.reply if isinstance(one, cam6.Fault) else plain.value(one) for one in got] == self.want
+        assert [one.reply if isinstance(one, cam6.Fault) else by_oracle.value(one) for one in got] == self.want
         assert all(one.index == index for index, one in enumerate(got) if isinstance(one, cam6.Fault))
         assert len(self.many) == 0
         self.want.clear()

@@ -32,7 +32,7 @@ def machine(cam6: str) -> Iterator[Machine]:
 
 @pytest.fixture
 def breaking() -> Iterator[Callable[..., Breaking]]:
-    """Starts a host of plain machines that breaks, as often as it is called."""
+    """Starts a host of oracle machines that breaks, as often as it is called."""
     with ExitStack() as stack:
         yield lambda *options, **more: stack.enter_context(Breaking(*options, **more))
 

@@ -1,6 +1,6 @@
-"""What the tests of examples/ensemble.py share: the plain machine's counts of its tasks, and how the script is run.
+"""What the tests of examples/ensemble.py share: the oracle's counts of its tasks, and how the script is run.
 
-The rules are written here anew, as texts for the plain machine, and the random cells are drawn here. So nothing of what
+The rules are written here anew, as texts for the oracle, and the random cells are drawn here. So nothing of what
 is expected comes from the package, from the script or from the program.
 """
 
@@ -18,7 +18,7 @@ from pathlib import Path
 from types import SimpleNamespace
 from typing import Any
 
-import plain
+import by_oracle
 from support.programs import TOP
 from support.tools import tool
 
@@ -27,7 +27,7 @@ SOURCE = str(TOP / "clients" / "python" / "src")
 SIDE = 128
 # Seconds in which a run has to end.
 PATIENCE = 500
-# Tasks that the plain machine does soon: three seeds, and a step a part.
+# Tasks that the oracle does soon: three seeds, and a step a part.
 FEW_STEPS, FEW_SEEDS = 3, 3
 LIMIT = f"--limit={PATIENCE}"
 FEW = [f"--seeds={FEW_SEEDS}", "--rules=all", f"--steps={FEW_STEPS}", "--every=1", "--part=1", f"--side={SIDE}", LIMIT]
@@ -62,11 +62,11 @@ BLOCK_RULES = ("critters", "tron")
 
 @functools.lru_cache(maxsize=None)
 def counts_of(rule: str, seed: int, steps: int) -> tuple[int, ...]:
-    """The counts at steps 0, 1, 2 and so on, by the plain machine: how many cells are set in some plane. At step 0 the cells
+    """The counts at steps 0, 1, 2 and so on, by the oracle: how many cells are set in some plane. At step 0 the cells
     are the bits of a random number, from the highest on."""
     is_block = rule in BLOCK_RULES
     wiring = {"hood": "N/MARG", "minor": "&/PHASES"} if is_block else {"hood": "N/MOORE", "minor": "&/CENTERS"}
-    torus, kept = plain.Torus(SIDE), SimpleNamespace(text=TEXTS[rule], half="A", **wiring)
+    torus, kept = by_oracle.Torus(SIDE), SimpleNamespace(text=TEXTS[rule], half="A", **wiring)
     text = f"{random.Random(seed).getrandbits(SIDE * SIDE):0{SIDE * SIDE // 4}x}"
     for y in range(SIDE):
         torus.put(0, y, text[y * SIDE // 4 : (y + 1) * SIDE // 4])
@@ -77,8 +77,8 @@ def counts_of(rule: str, seed: int, steps: int) -> tuple[int, ...]:
     return tuple(found)
 
 
-def plain_counts() -> dict[str, list[int]]:
-    """The counts of the tasks `FEW` by the plain machine."""
+def oracle_counts() -> dict[str, list[int]]:
+    """The counts of the tasks `FEW` by the oracle."""
     tasks = itertools.product(TEXTS, range(FEW_SEEDS))
     return {f"{rule}/{seed}": list(counts_of(rule, seed, FEW_STEPS)) for rule, seed in tasks}
 

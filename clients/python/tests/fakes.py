@@ -26,8 +26,8 @@ BALLS = (
 )
 
 
-class Plain(Alone):
-    """A plain machine, line by line."""
+class OracleMachine(Alone):
+    """An oracle machine: it answers line by line."""
 
     def ask(self, **command: Any) -> Any:
         """The reply to a command."""
@@ -54,7 +54,7 @@ def north(name: str) -> bytes:
 
 
 class Breaking:
-    """A host by plain machines, in a thread, that breaks as a test wants it to.
+    """A host of oracle machines, in a thread, that breaks as a test wants it to.
 
     `breaks` gets the number of a line, counted over all connections, and the line. What it returns is done: `"before"`
     closes the connection before the line is done, `"after"` when it is done and not answered, a whole number after so
@@ -69,7 +69,7 @@ class Breaking:
         tls: Optional[ssl.SSLContext] = None,
     ) -> None:
         self.breaks, self.limit, self.tls = breaks, limit, tls
-        self.machines = [Plain(limit) for _ in range(users)]
+        self.machines = [OracleMachine(limit) for _ in range(users)]
         self.taken = [threading.Lock() for _ in range(users)]
         self.heard: list[bytes] = []
         self.first: list[bytes] = []

@@ -7,7 +7,7 @@ import random
 from typing import Any
 
 import pytest
-from plain import bits_of, lists
+from by_oracle import bits_of, lists
 
 from cam6 import cells, placing
 

@@ -1,8 +1,8 @@
 """Journals under any list of crashes: of the program and of its computer at each byte that is written, and of hosts.
 
 A program has a list of commands. It asks for some at a time, and begins again whenever it has ended. What it hears is
-compared with one plain machine that never failed. Hosts are plain machines too, and a clock of their own says how long
-they take, so that each run of an example is the same.
+compared with one oracle machine that never failed. Hosts are oracle machines too. A clock of their own tells how long they
+take, so that each run of an example is the same.
 """
 
 from __future__ import annotations
@@ -21,7 +21,7 @@ from unittest import mock
 
 import pytest
 from disks import Crash, Disk, Failure
-from fakes import Plain, compact, north
+from fakes import OracleMachine, compact, north
 from hypothesis import assume, example, given, note, settings
 from hypothesis import strategies as st
 from hypothesis.stateful import RuleBasedStateMachine, initialize, invariant, precondition, rule
@@ -119,7 +119,7 @@ class Seat:
 
     breaks: dict[int, str]
     at_once: int
-    machine: Plain = field(default_factory=lambda: Plain(LIMIT))
+    machine: OracleMachine = field(default_factory=lambda: OracleMachine(LIMIT))
     seat: Optional[int] = 1
     address: tuple[str, int] = ("a.test", 6006)
     count: int = 0

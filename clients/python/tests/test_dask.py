@@ -1,6 +1,6 @@
 """The example of an ensemble by Dask, where workers, computers and programs die, or don't answer.
 
-Serial runs are those of the plain machine (test_ensemble.py). Here runs by Dask have to be equal to both.
+Serial runs are those of the oracle (test_ensemble.py). Here runs by Dask have to be equal to both.
 """
 
 from __future__ import annotations
@@ -95,8 +95,8 @@ def processes_of(path: str) -> list[Path]:
     return found
 
 
-def test_the_counts_are_those_of_the_plain_machine(cam6: str, shared: list[str]) -> None:
-    assert ensembles.counts_by(cam6, *shared, *ensembles.FEW) == ensembles.plain_counts()
+def test_the_counts_are_those_of_the_oracle(cam6: str, shared: list[str]) -> None:
+    assert ensembles.counts_by(cam6, *shared, *ensembles.FEW) == ensembles.oracle_counts()
 
 
 def test_a_worker_is_killed(cam6: str, tmp_path: Path) -> None:

@@ -15,17 +15,17 @@ from cam6 import Lost
 Task = tuple[str, int]
 
 
-def test_the_counts_are_those_of_the_plain_machine(cam6: str) -> None:
-    assert ensembles.counts_by(cam6, "--serial", *ensembles.FEW) == ensembles.plain_counts()
+def test_the_counts_are_those_of_the_oracle(cam6: str) -> None:
+    assert ensembles.counts_by(cam6, "--serial", *ensembles.FEW) == ensembles.oracle_counts()
 
 
-def test_the_plain_machine_tells_seeds_apart() -> None:
+def test_the_oracle_tells_seeds_apart() -> None:
     """Otherwise a wrong seed could have the counts of the right one."""
     starts = {ensembles.counts_of("life", seed, 0) for seed in range(ensembles.FEW_SEEDS)}
     assert len(starts) == ensembles.FEW_SEEDS
 
 
-def test_the_plain_machine_tells_rules_apart() -> None:
+def test_the_oracle_tells_rules_apart() -> None:
     ways = {ensembles.counts_of(rule, 0, 1)[1:] for rule in ensembles.TEXTS}
     assert len(ways) == len(ensembles.TEXTS)
 
@@ -46,7 +46,7 @@ def counts_by(plan: Any, rule: str = "critters", seed: int = 1, **changes: Any) 
     ("rule", "seed", "changes"),
     [("critters", 1, {}), ("brain", 0, {"part": 2}), ("tron", 0, {"part": 3, "folder": None})],
 )
-def test_parts_have_the_counts_of_the_plain_machine(rule: str, seed: int, changes: dict[str, Any], plan: Any) -> None:
+def test_parts_have_the_counts_of_the_oracle(rule: str, seed: int, changes: dict[str, Any], plan: Any) -> None:
     assert counts_by(plan, rule, seed, **changes) == list(ensembles.counts_of(rule, seed, 3))
 
 

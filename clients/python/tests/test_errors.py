@@ -63,7 +63,7 @@ def test_each_error_is_one_of_cam6(kind: type) -> None:
 
 @pytest.mark.parametrize("number", [number for number, entry in ENTRIES.items() if entry["program"] == "alone"])
 def test_an_example_of_the_page_raises_its_class(number: int, local: Local) -> None:
-    """It has the fields that the plain machine has."""
+    """It has the fields that the oracle has."""
     sent = example_of(ENTRIES[number])
     want = json.loads(answers(sent)[-1])
     assert want["fault"] == number
@@ -128,7 +128,7 @@ def test_the_fault_of_a_text_shows_where_it_is(local: Local) -> None:
     assert "    : R NORTHEAST >PLN0 ;\n        ^" in str(raised.value)
 
 
-def test_names_at_an_address_are_those_of_the_plain_machine() -> None:
+def test_names_at_an_address_are_those_of_the_oracle() -> None:
     for hood, minor in itertools.product(HOODS, MINORS):
         every = f"{HOODS[hood]} {MINORS[minor]}".split()
         for address in (0, 1, 2, 5, 64, 1024, 2048, 3072, 1023, 4095):

@@ -13,7 +13,7 @@ from pathlib import Path
 from typing import Any
 
 import pytest
-from plain import lists
+from by_oracle import lists
 
 from cam6 import Machine, local, patterns, rules
 from cam6.patterns import PatternError

@@ -12,7 +12,7 @@ from typing import Any
 
 import pytest
 from disks import Disk, Failure
-from fakes import Breaking, Plain, compact
+from fakes import Breaking, OracleMachine, compact
 from oracle.machine import answers
 from test_sessions import CYCLE, RULE, Connected, commands, session_of
 
@@ -72,8 +72,8 @@ def written(made: Journal) -> list[Any]:
 
 @pytest.mark.parametrize("limit", [128, 256, 512])
 def test_a_new_journal_is_a_blank_machine(limit: int) -> None:
-    """Its load line is the one that a plain machine saves."""
-    assert Journal(None, "none", limit).load == Plain(limit).load_line()
+    """Its load line is the one that a machine of the oracle saves."""
+    assert Journal(None, "none", limit).load == OracleMachine(limit).load_line()
 
 
 def test_a_new_journal_is_opened_again(opened: Opened) -> None:
@@ -167,9 +167,9 @@ def test_a_checkpoint_keeps_what_is_not_answered(path: Path, opened: Opened) -> 
     made = opened(sync="checkpoint")
     made.record_commands([RULE, CYCLE, b"rest"])
     made.record_replies([b'{"ok":"rule"}', b'{"ok":"cycle"}'])
-    plain = Plain(128)
-    plain.answer(RULE)
-    made.checkpoint(plain.load_line())
+    oracle = OracleMachine(128)
+    oracle.answer(RULE)
+    made.checkpoint(oracle.load_line())
     want = state_of(made)
     made.close()
     again = opened()

@@ -6,7 +6,7 @@ import json
 from typing import Any
 
 import pytest
-from fakes import PARITY, Plain
+from fakes import PARITY, OracleMachine
 from oracle.lines import COMMANDS, is_command, read_line
 
 from cam6 import lines
@@ -66,12 +66,12 @@ def test_more_steps_than_a_line_may_ask_for_add_up(n: int) -> None:
 
 def test_a_saved_machine_becomes_a_load_line() -> None:
     """By bytes, with all that a text may have."""
-    plain = Plain(128)
-    plain.ask(do="rule", name="P", half="A", hood="N/VONN", minor="&/CENTERS", text="( \u007f \u2028 é )\n" + PARITY)
-    reply = plain.answer(b'{"do":"save"}')
+    oracle = OracleMachine(128)
+    oracle.ask(do="rule", name="P", half="A", hood="N/VONN", minor="&/CENTERS", text="( \u007f \u2028 é )\n" + PARITY)
+    reply = oracle.answer(b'{"do":"save"}')
     line = lines.load_line(reply)
-    assert line == plain.load_line()
-    assert Plain(256).answer(line) == b'{"ok":"load"}'
+    assert line == oracle.load_line()
+    assert OracleMachine(256).answer(line) == b'{"ok":"load"}'
     for wrong in (b"", b'{"fault":1}', reply[:-1], reply[1:]):
         with pytest.raises(Cam6Error):
             lines.load_line(wrong)
@@ -79,9 +79,9 @@ def test_a_saved_machine_becomes_a_load_line() -> None:
 
 @pytest.mark.parametrize("side", [128, 256, 512])
 def test_a_blank_machine(side: int) -> None:
-    plain = Plain(512)
-    plain.ask(do="side", side=side)
-    assert lines.blank(side) == plain.load_line()
+    oracle = OracleMachine(512)
+    oracle.ask(do="side", side=side)
+    assert lines.blank(side) == oracle.load_line()
     assert lines.side_of_load(lines.blank(side)) == side
 
 

@@ -11,10 +11,10 @@ from concurrent.futures import ThreadPoolExecutor
 from typing import Any
 
 import pytest
+from by_oracle import bits_of, digits, value
 from calls import Calls
-from fakes import BALLS, PARITY, Plain, compact
+from fakes import BALLS, PARITY, OracleMachine, compact
 from oracle.lines import COMMANDS
-from plain import bits_of, digits, value
 from support.programs import Host
 from support.stateful import play
 
@@ -48,7 +48,8 @@ def test_each_command_by_its_call(cam6: str) -> None:
             compact(**arguments)
             for arguments in [*steps, *looks, {"do": "count", "mask": 2}, {"do": "rules"}, {"do": "save"}]
         ),
-        *(compact(do="map", colours=[*range(15, -1, -1)]), Plain(128).load_line(), compact(do="clear", plane=0)),
+        *(compact(do="map", colours=[*range(15, -1, -1)]), OracleMachine(128).load_line()),
+        compact(do="clear", plane=0),
         compact(do="drop", name="B"),
     ):
         calls.say(line)
@@ -57,7 +58,7 @@ def test_each_command_by_its_call(cam6: str) -> None:
 
 
 def test_put_and_cells(local: Local) -> None:
-    plain, source, machine = Plain(128), random.Random(9), local(side_limit=128)
+    oracle, source, machine = OracleMachine(128), random.Random(9), local(side_limit=128)
     for plane in range(4):
         machine.random(plane, 0.4, seed=plane)
         bits = [[source.randrange(2) for _ in range(50)] for _ in range(9)]
@@ -65,12 +66,12 @@ def test_put_and_cells(local: Local) -> None:
         rows = value(machine.plane(plane))
         assert [[rows[(j - 5) % 128][(100 + i) % 128] for i in range(50)] for j in range(9)] == bits
         for row, cells in enumerate(rows):
-            plain.ask(do="set", plane=plane, row=row, bits=digits(cells))
-    assert machine.save() == plain.load_line()
+            oracle.ask(do="set", plane=plane, row=row, bits=digits(cells))
+    assert machine.save() == oracle.load_line()
     states = value(machine.cells())
     for mask in (1, 2, 0xFFFE, 0x8001):
         assert machine.count(mask) == sum(mask >> state & 1 for row in states for state in row)
-        assert machine.count(mask) == plain.ask(do="count", mask=mask)["count"]
+        assert machine.count(mask) == oracle.ask(do="count", mask=mask)["count"]
     assert machine.count([0, 15]) == machine.count(0x8001)
     machine.colour_map([*range(15, -1, -1)])
     assert machine.colours(3) == "".join(f"{15 - state:x}" for state in states[3])

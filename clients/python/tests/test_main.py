@@ -9,7 +9,7 @@ from collections.abc import Callable
 from pathlib import Path
 
 import pytest
-from fakes import Breaking, Plain, compact
+from fakes import Breaking, OracleMachine, compact
 from oracle.machine import answers
 from support.programs import TOP, free_port
 
@@ -92,14 +92,14 @@ def test_seats(main: Main, breaking: Callable[..., Breaking]) -> None:
 
 
 def test_keep(main: Main, breaking: Callable[..., Breaking], local: Callable[..., Machine], tmp_path: Path) -> None:
-    plain, host = Plain(128), breaking()
-    plain.answer(LINES[1])
+    oracle, host = OracleMachine(128), breaking()
+    oracle.answer(LINES[1])
     host.machines[2].answer(LINES[1])
     status, out, err = main("keep", f"127.0.0.1:{host.port}", "3", "kept")
     assert (status, err) == (0, "")
     assert "seat 3, side 128" in out
     saved = (tmp_path / "kept").read_bytes()
-    assert saved == plain.load_line() + b"\n"
+    assert saved == oracle.load_line() + b"\n"
     machine = local()
     machine.load(saved)
     assert machine.count() == 128

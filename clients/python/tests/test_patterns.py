@@ -10,7 +10,7 @@ from typing import Any
 from unittest import mock
 
 import pytest
-from plain import Torus, lists
+from by_oracle import Torus, lists
 
 from cam6 import Machine, patterns, rules
 from cam6.patterns import PatternError
@@ -218,7 +218,7 @@ def test_a_pattern_is_put_on_a_machine(corner: tuple[int, int]) -> None:
 
 
 def test_a_ball_runs_along_its_diagonal() -> None:
-    """It is taken from its marks to a plain torus and back."""
+    """It is taken from its marks to a torus and back."""
     rows = [[1, 0, 0, 0]] + [[0] * 4] * 3
     found = patterns.emulated(patterns.emulate(rows, corner=(0, 0), rule=f"{BBM}:T128"))
     lower, _, grids = found.planes(128, 0, 0)

@@ -1,4 +1,4 @@
-"""Pictures by pixel: against a plain renderer, the pictures of docs/pictures, and cam6_draw."""
+"""Pictures by pixel: against a renderer of its own, the pictures of docs/pictures, and cam6_draw."""
 
 from __future__ import annotations
 
@@ -12,7 +12,7 @@ from collections.abc import Sequence
 from pathlib import Path
 from typing import Any, Optional
 
-import plain
+import by_oracle
 import pytest
 from oracle.palette import default_palette
 from PIL import Image, ImageSequence
@@ -243,7 +243,7 @@ def test_beside_cam6_draw(side: int, words: list[str], cam6_draw: str) -> None:
     cells = some_cells(source, side, side)
     plane = [[cell & 1 for cell in row] for row in cells]
     answered: list[Any] = [{"colours": "".join(f"{cell:x}" for cell in row), "ok": "colours"} for row in cells]
-    answered.append({"ok": "plane", "rows": [plain.digits(row) for row in plane]})
+    answered.append({"ok": "plane", "rows": [by_oracle.digits(row) for row in plane]})
     replies = "".join(json.dumps(reply, separators=(",", ":")) + "\n" for reply in answered).encode()
     given = options_of(words)
     drawn = ran([cam6_draw, "--ppm", *words], replies)

@@ -6,10 +6,10 @@ import random
 from collections.abc import Callable
 
 import pytest
+from by_oracle import value
 from calls import Batches
 from fakes import Breaking, compact
 from oracle.machine import answers
-from plain import value
 from support.programs import Host
 from support.stateful import play
 
@@ -21,7 +21,7 @@ Local = Callable[..., Machine]
 
 
 def looks(source: random.Random, count: int) -> list[bytes]:
-    """Lines that a plain machine answers quickly, some of them with faults."""
+    """Lines that a machine of the oracle answers quickly, some of them with faults."""
     number = source.randrange
     ways: list[Callable[[], bytes]] = [
         lambda: compact(do="set", plane=number(4), row=number(128), bits=f"{source.getrandbits(128):032x}"),

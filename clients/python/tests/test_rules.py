@@ -7,7 +7,7 @@ import random
 from collections.abc import Callable, Sequence
 from typing import Any
 
-import plain
+import by_oracle
 import pytest
 from oracle.wirings import FIRST_PLANE
 
@@ -21,7 +21,7 @@ Build = Callable[..., rules.Rule]
 
 def block_after(rule: rules.Rule, states: Block, grid: str = "EVEN", phase: int = 0) -> list[int]:
     """The states of a block, in reading order, after a step on a torus that has but this block."""
-    torus, first = plain.Torus(2), FIRST_PLANE[rule.half]
+    torus, first = by_oracle.Torus(2), FIRST_PLANE[rule.half]
     for level in (0, 1):
         torus.planes[first + level] = [bytes(state >> level & 1 for state in states[at : at + 2]) for at in (0, 2)]
     torus.step(rule, grid, phase)
@@ -41,7 +41,7 @@ def text_of(counts: list[int]) -> str:
 
 def check_counts(rule: rules.Rule, names: list[str], want: Callable[[int, int], int]) -> None:
     """Fails unless a rule leaves what is wanted for each centre and count of neighbours."""
-    for bits, left in plain.images(rule, ["CENTER", *names]).items():
+    for bits, left in by_oracle.images(rule, ["CENTER", *names]).items():
         assert left == (want(bits[0], sum(bits[1:])), 0), (rule.text, bits)
 
 
@@ -78,7 +78,7 @@ def test_generations() -> None:
         born, stays = some(source, 8), some(source, 8)
         b, s = text_of(born), text_of(stays)
         rule = rules.generations(f"B{b}/S{s}/C3" if k % 2 else f"{s}/{b}/3")
-        for bits, new in plain.images(rule, ["CENTER", "CENTER'", *EIGHT]).items():
+        for bits, new in by_oracle.images(rule, ["CENTER", "CENTER'", *EIGHT]).items():
             alive, dying, count = bits[0], bits[1], sum(bits[2:])
             want = 0 if dying else (1 if count in stays else 2) if alive else int(count in born)
             assert new[0] + 2 * new[1] == want, (rule.text, bits)
@@ -89,7 +89,7 @@ def test_generations_of_two_states() -> None:
 
 
 def test_a_rule_of_counts_on_a_torus() -> None:
-    torus = plain.Torus(8)
+    torus = by_oracle.Torus(8)
     torus.planes[0][0] = bytes([1, 1, 0, 0, 0, 0, 0, 1])
     torus.step(rules.life("B3/S23"))
     assert [(x, y) for y, row in enumerate(torus.planes[0]) for x in range(8) if row[x]] == [(0, 0), (0, 1), (0, 7)]
@@ -247,9 +247,9 @@ def in_text(parameter: str, rule: rules.Rule) -> str:
 def checked(function: Callable[..., Any], parameters: Sequence[str]) -> rules.Rule:
     """The rule of a function. Fails unless the rule leaves what the function returns."""
     rule = rules.table(function)
-    assert plain.size_of(rule) == rules._size(" ".join(rule.text.split()[2:-1]))
+    assert by_oracle.size_of(rule) == rules._size(" ".join(rule.text.split()[2:-1]))
     names = [in_text(parameter, rule) for parameter in parameters]
-    for arguments, left in plain.images(rule, names).items():
+    for arguments, left in by_oracle.images(rule, names).items():
         want, centre = function(*arguments), dict(zip(names, arguments)).get("CENTER'", 0)
         assert left == (want if isinstance(want, tuple) else (int(want), centre)), (rule.text, arguments)
     return rule
@@ -272,7 +272,7 @@ def test_random_functions() -> None:
 def test_ten_neighbours_without_an_order() -> None:
     source, parameters = random.Random(13), NAMES["N/MOORE"].split()[:10]
     rule = checked(function_of(parameters, [source.randrange(2) for _ in range(1024)]), parameters)
-    assert plain.size_of(rule) < 2100
+    assert by_oracle.size_of(rule) < 2100
 
 
 @pytest.mark.parametrize(
@@ -402,7 +402,7 @@ def tried() -> list[rules.Rule]:
 def test_the_program_names_the_same_cause(cam6: str) -> None:
     """It takes the texts, and undoes the rules that can be undone."""
     for rule in tried():
-        replies, cause = plain.played(cam6, [*kept(rule), {"do": "back", "n": 0}]), rules.cause(rule)
+        replies, cause = by_oracle.played(cam6, [*kept(rule), {"do": "back", "n": 0}]), rules.cause(rule)
         assert replies[:2] == [{"ok": "rule"}, {"ok": "cycle"}]
         if cause is None:
             assert replies[2] == {"ok": "back", "position": 0}
@@ -414,16 +414,16 @@ def test_the_program_names_the_same_cause(cam6: str) -> None:
 
 @pytest.mark.parametrize("which", ["blocks", "life", "generations"])
 def test_steps_of_the_program(which: str, cam6: str) -> None:
-    """Two steps over random cells, against the plain torus."""
+    """Two steps over random cells, against the torus of the oracle."""
     source = random.Random(19)
     made = {"life": rules.life("B36/S23"), "generations": rules.generations("B2/S/C3")}
     rule = made.get(which) or rules.margolus(source.sample(range(16), 16))
-    torus, commands = plain.Torus(128), list[dict[str, Any]]()
+    torus, commands = by_oracle.Torus(128), list[dict[str, Any]]()
     for y in range(128):
         torus.planes[0][y] = bytes(source.randrange(2) for _ in range(128))
         commands.append({"do": "set", "plane": 0, "row": y, "bits": torus.digits(0, y)})
     commands += [*kept(rule), {"do": "run", "n": 2}]
-    replies = plain.played(cam6, [*commands, *({"do": "plane", "plane": plane} for plane in (0, 1))])
+    replies = by_oracle.played(cam6, [*commands, *({"do": "plane", "plane": plane} for plane in (0, 1))])
     for grid, phase in (rule.cycle * 2)[:2]:
         torus.step(rule, grid, phase)
     for plane, reply in enumerate(replies[-2:]):

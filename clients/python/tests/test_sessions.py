@@ -1,7 +1,7 @@
 """Sessions: connections that break at each place, hosts that are killed, and programs that are started again.
 
-What a session replies is compared with a plain machine that got the same commands once each. `test_crashes` has any list
-of crashes. Here are those of real hosts and real programs.
+A session's replies are compared with those of an oracle machine that got the same commands once each. `test_crashes` has
+any list of crashes. Here are those of real hosts and real programs.
 """
 
 from __future__ import annotations
@@ -21,7 +21,7 @@ from unittest import mock
 
 import fakes
 import pytest
-from fakes import BALLS, Breaking, Plain, compact, north, once
+from fakes import BALLS, Breaking, OracleMachine, compact, north, once
 from oracle.machine import answers
 from support.programs import Host, free_port
 
@@ -37,7 +37,7 @@ RUN = compact(do="run", n=1)
 CLEAR_0, CLEAR_1 = (compact(do="clear", plane=plane) for plane in (0, 1))
 SET = compact(do="set", plane=0, row=1, bits="8" * 32)
 OTHER_SET = compact(do="set", plane=0, row=3, bits="f0" * 16)
-# A host of the plain machine's limit.
+# A host of the oracle's limit.
 SMALL = ("--users=4", "--side=128", "--boards=1")
 Hosts = Callable[..., Host]
 Breakings = Callable[..., Breaking]
@@ -66,10 +66,10 @@ def commands(seed: int, count: int, most_steps: int = 3) -> list[bytes]:
 
 
 def check(machine: Machine, sent: list[bytes], batch: int, save_after: int = 0) -> None:
-    """Sends the lines, so many at a time, and compares the replies and the machine with a plain one. If `save_after` is
-    above 0, saves each time that so many were answered."""
-    plain = Plain(128)
-    want = [plain.answer(line) for line in sent]
+    """Sends the lines, so many at a time. Compares the replies and the machine with the oracle's. If `save_after` is above 0,
+    saves each time that so many were answered."""
+    oracle = OracleMachine(128)
+    want = [oracle.answer(line) for line in sent]
     got: list[bytes] = []
     saved = 0
     for at in range(0, len(sent), batch):
@@ -78,7 +78,7 @@ def check(machine: Machine, sent: list[bytes], batch: int, save_after: int = 0) 
         if save_after and len(got) - saved >= save_after and transport.checkpoint():
             saved = len(got)
     assert got == want
-    assert machine.save() == plain.load_line()
+    assert machine.save() == oracle.load_line()
 
 
 def session_of(machine: Machine) -> Session:
@@ -127,9 +127,9 @@ def test_a_reply_is_cut(cut: int, broken: Connected) -> None:
 @pytest.mark.parametrize("number", range(1, 9))
 def test_breaks_round_a_load(number: int, what: str, broken: Connected) -> None:
     """After a load nothing of the machine before it is played again."""
-    plain = Plain(128)
-    plain.answer(compact(do="set", plane=2, row=9, bits="3" * 32))
-    sent = [SET, plain.load_line(), compact(do="count", mask=65534), lines.SAVE]
+    oracle = OracleMachine(128)
+    oracle.answer(compact(do="set", plane=2, row=9, bits="3" * 32))
+    sent = [SET, oracle.load_line(), compact(do="count", mask=65534), lines.SAVE]
     check(broken(once(number, what), every_seconds=5), sent, 1)
 
 

@@ -1,4 +1,4 @@
-// A plain machine for tests: cells in arrays, and three rules done cell by cell. It shares nothing with the page's modules.
+// The oracle of these tests: a machine of cells in arrays, with three rules done cell by cell. It shares nothing with the page's modules.
 
 // A parser of its own, so that a test can count what the page parses.
 const { parse } = JSON;
@@ -54,7 +54,7 @@ function textOf(bits) {
 const blank = side => [0, 1, 2, 3].map(() => Array(side).fill(bitsOf('0'.repeat(side / 4), side)));
 
 /** A machine by what docs/MANUAL.md says. */
-export class PlainMachine {
+export class OracleMachine {
   colours = Array.from({ length: 16 }, (_, i) => i);
   /** @type {Rule[]} */
   rules = [];
