@@ -18,8 +18,8 @@ REPEATED_OR_UNSEEN = re.compile(r"(.|[][{}(,\\ ][ -~]{1,19}?)\1{8,}|[^ -~]+", re
 BLANK_ROWS = re.compile(r'("(?:0{32}|0{64}|0{128})",)\1{3,}')
 
 
-def short(digits: str) -> str:
-    """A row's digits, as an example may say them."""
+def short_digits(digits: str) -> str:
+    """A row's digits in their shortest spelling. A `*` may stand for zeros."""
     if len(set(digits)) == 1:
         return f"«{len(digits)}*{digits[0]}»"
     first = digits.rstrip("0")
@@ -27,22 +27,23 @@ def short(digits: str) -> str:
     return best if len(best) <= len(digits) else digits
 
 
-def marked(found: re.Match[str]) -> str:
-    """What was found, as an example may say it."""
+def mark_match(found: re.Match[str]) -> str:
+    """Returns a repeated text as «count*text», or bytes that are not printable ASCII as «x hexadecimal digits»."""
     text, unit = found[0], found[1] or found[0]
     times = f"{len(text) // len(unit)}*" if found[1] else ""
     spelled = unit if " " <= unit[0] <= "~" else f"x {unit.encode().hex(' ').upper()}"
     return f"«{times}{spelled}»"
 
 
-def shown(text: str) -> str:
-    """A text as an example says it. Blanks at its ends stand in marks."""
+def with_marks(text: str) -> str:
+    """A text as an example spells it: repeated pieces, blanks at the ends and bytes that are not printable stand in
+    marks."""
     spelled, at = "", 0
     for found in BLANK_ROWS.finditer(text):
-        spelled += REPEATED_OR_UNSEEN.sub(marked, text[at : found.start()])
+        spelled += REPEATED_OR_UNSEEN.sub(mark_match, text[at : found.start()])
         spelled += f"«{len(found[0]) // len(found[1])}*{found[1]}»"
         at = found.end()
-    text = spelled + REPEATED_OR_UNSEEN.sub(marked, text[at:])
+    text = spelled + REPEATED_OR_UNSEEN.sub(mark_match, text[at:])
     return re.sub("^ +| +$", lambda blanks: f"«{len(blanks[0])}* »", text)
 
 
@@ -57,8 +58,8 @@ def lines_of_rows(rows: list[str]) -> Iterator[str]:
     common = common_row(rows[::2]), common_row(rows[1::2])
     for word, digits in zip(("even", "odd"), common):
         if digits.strip("0"):
-            yield f"= {word} {short(digits)}"
-    yield from (f"= {y} {short(row)}" for y, row in enumerate(rows) if row != common[y % 2])
+            yield f"= {word} {short_digits(digits)}"
+    yield from (f"= {y} {short_digits(row)}" for y, row in enumerate(rows) if row != common[y % 2])
 
 
 class PlacedExample(Example):
@@ -115,5 +116,5 @@ def with_replies(line: str, replies: list[str]) -> list[str]:
     sent, arrow, _ = line.rpartition(" => ")
     assert arrow or line.startswith("< "), f"this line has no reply of its own: {line}"
     if line != "< plane" or '"rows"' not in replies[0]:
-        return [f"{sent} => {shown(chr(10).join(replies))}" if arrow else f"< {shown(chr(10).join(replies))}"]
+        return [f"{sent} => {with_marks(chr(10).join(replies))}" if arrow else f"< {with_marks(chr(10).join(replies))}"]
     return ["< plane", *lines_of_rows(json.loads(replies[0])["rows"])]

@@ -15,8 +15,8 @@ from oracle.machine import answers
 from oracle.rules import bit_of_block, rule_of
 
 
-def reading(line: bytes) -> bytes:
-    """The plainest line that says the same, or the fault."""
+def readings_answer(line: bytes) -> bytes:
+    """The plainest spelling of the command that a line is, or its fault."""
     command = read_line(line, is_command)
     if isinstance(command, int):
         return plain({"fault": command})
@@ -24,7 +24,7 @@ def reading(line: bytes) -> bytes:
 
 
 def text_answer(text: str, half: str, hood: str, minor: str) -> bytes:
-    """The fault of a text, or that it is a rule."""
+    """A text's fault, or the reply that it is a rule."""
     try:
         read_text(text, half, hood, minor)
     except TextFault as fault:
@@ -32,16 +32,16 @@ def text_answer(text: str, half: str, hood: str, minor: str) -> bytes:
     return b'{"ok":"rule"}'
 
 
-def shown(entries: Iterable[int]) -> bytes:
+def table_text(entries: Iterable[int]) -> bytes:
     """The entries of a table, 64 a line."""
     digits = "".join(map(str, entries))
     return "\n".join(digits[first : first + 64] for first in range(0, 4096, 64)).encode()
 
 
 def table_answer(text: str, half: str, hood: str, minor: str) -> bytes:
-    """The entries at all addresses, or where the rule stops."""
+    """The entries of a rule's table at all addresses, or the fault of the rule."""
     rule = rule_of(half, hood, minor, text)
-    return plain(rule) if isinstance(rule, dict) else shown(map(rule.at, range(4096)))
+    return plain(rule) if isinstance(rule, dict) else table_text(map(rule.at, range(4096)))
 
 
 def inverse_answer(text: str, *words: str) -> bytes:
@@ -59,7 +59,7 @@ def inverse_answer(text: str, *words: str) -> bytes:
             now, new = (state, image) if twice else (image, state)
             bits = [name != "." and bit_of_block(name, now, phase, place) for name in names]
             entries[sum(bit << line for line, bit in enumerate(bits))] = new >> place & 1 | (new >> place + 4 & 1) << 1
-    return shown(entries)
+    return table_text(entries)
 
 
 def part_answers(part: Part) -> list[bytes]:
@@ -72,7 +72,7 @@ def part_answers(part: Part) -> list[bytes]:
         replay = Replay(users, boards, cache, limit)
         return [outcome_of(replay.answer, line) for line, _ in part.sent]
     ways: dict[str, Callable[..., bytes]] = {"texts": text_answer, "tables": table_answer, "inverses": inverse_answer}
-    return [reading(line) if word == "readings" else ways[word](line.decode(), *rest) for line, _ in part.sent]
+    return [readings_answer(line) if word == "readings" else ways[word](line.decode(), *rest) for line, _ in part.sent]
 
 
 def is_known(path: Any) -> bool:

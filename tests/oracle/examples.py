@@ -36,8 +36,8 @@ def piece(text: str) -> bytes:
     return bytes.fromhex(text[2:])
 
 
-def marked(mark: str, named: dict[str, bytes]) -> bytes:
-    """What a mark stands for."""
+def bytes_of_mark(mark: str, named: dict[str, bytes]) -> bytes:
+    """The bytes that a mark stands for."""
     if times := re.fullmatch(r"([0-9]+)\*(.*)", mark, re.DOTALL):
         return int(times[1]) * piece(times[2])
     if mark in named:
@@ -48,14 +48,14 @@ def marked(mark: str, named: dict[str, bytes]) -> bytes:
 
 
 def written_out(text: str, named: dict[str, bytes]) -> bytes:
-    """A text with its marks written out."""
+    """The bytes of a text whose marks are replaced by what they stand for."""
     whole, *pieces = text.split("«")
     written = whole.encode()
     for part in pieces:
         mark, end, rest = part.partition("»")
         if not end:
             raise Unplayable(f"a mark without an end: {part}")
-        written += marked(mark, named) + rest.encode()
+        written += bytes_of_mark(mark, named) + rest.encode()
     return written
 
 
@@ -267,7 +267,7 @@ def whole_reply(answer: Callable[[bytes], bytes], user: bytes, command: bytes) -
 
 
 def main() -> None:
-    """Prints what a part of a file sends."""
+    """Prints what a part of an example sends."""
     parser = argparse.ArgumentParser(description="Prints the lines that a part of a worked example sends.")
     parser.add_argument("file", metavar="FILE", type=Path)
     parser.add_argument("number", metavar="NUMBER", nargs="?", type=int, default=1)

@@ -178,13 +178,13 @@ class Reader:
 
     def item(self, token: str, more: int) -> Item:
         """A word by itself, which takes this much more of the size than it has."""
-        size, item = 1, self.known(token)
+        size, item = 1, self.item_of(token)
         if item[0] == "name":
             size = max(1, item[1].size)
         self.grow(size + more)
         return item
 
-    def known(self, token: str) -> Item:
+    def item_of(self, token: str) -> Item:
         """The item that a token stands for. Raises a fault if there is none."""
         if LITERAL.fullmatch(token):
             digits = token.lstrip("0") or "0"
@@ -226,8 +226,8 @@ class Cell:
         for kind, content in items:
             getattr(self, f"do_{kind}")(content)
 
-    def taken(self, count: int) -> list[int]:
-        """The upper values, which are taken off the stack."""
+    def pop(self, count: int) -> list[int]:
+        """Removes the upper values of the stack, and returns them."""
         first = len(self.stack) - count
         if first < 0:
             raise RuleFault(40)
@@ -235,7 +235,7 @@ class Cell:
         del self.stack[first:]
         return values
 
-    def left(self, values: list[int]) -> None:
+    def push(self, values: list[int]) -> None:
         """Pushes values on the stack. Raises a fault if it is full."""
         self.stack += values
         if len(self.stack) > MOST_VALUES:
@@ -243,23 +243,23 @@ class Cell:
 
     def do_literal(self, value: int) -> None:
         """Pushes a number."""
-        self.left([value])
+        self.push([value])
 
     def do_neighbour(self, name: str) -> None:
-        """Leaves what is seen under a name."""
-        self.left([self.seen[name]])
+        """Pushes what is seen under a name."""
+        self.push([self.seen[name]])
 
     def do_word(self, word: tuple[int, Leaves]) -> None:
         """Does a word of the stack."""
         count, leaves = word
-        values = leaves(*self.taken(count))
+        values = leaves(*self.pop(count))
         if any(not 0 <= value <= LARGEST for value in values):
             raise RuleFault(43)
-        self.left(values)
+        self.push(values)
 
     def do_output(self, bits: list[tuple[int, int]]) -> None:
         """Pops a value, and writes bits of it."""
-        [value] = self.taken(1)
+        [value] = self.pop(1)
         for plane, bit in bits:
             self.written[plane] = value >> bit & 1
 
@@ -269,7 +269,7 @@ class Cell:
 
     def do_if(self, bodies: list[list[Item]]) -> None:
         """Does the first body if the value isn't 0, or else the second one, if there is one."""
-        [value] = self.taken(1)
+        [value] = self.pop(1)
         if value != 0:
             self.do(bodies[0])
         elif len(bodies) == 2:
@@ -277,7 +277,7 @@ class Cell:
 
     def do_case(self, items: list[Item]) -> None:
         """Does one of the words, by the value."""
-        [index] = self.taken(1)
+        [index] = self.pop(1)
         if index >= len(items):
             raise RuleFault(42)
         self.do([items[index]])

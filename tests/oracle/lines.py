@@ -93,7 +93,7 @@ def is_bits(value: Any) -> bool:
 
 
 def one_of(*words: str) -> Shape:
-    """What says whether a value is one of these words."""
+    """A check for one of these words."""
     return lambda value: is_text(value) and value in words
 
 

@@ -37,7 +37,7 @@ class Machine:
         self.due: tuple[str, int, int] | None = None
 
     def do(self, command: dict[str, Any]) -> dict[str, Any]:
-        """The reply to a command, which is done."""
+        """Does a command, but puts its steps off. Returns the reply."""
         word = command["do"]
         answer = getattr(self, f"do_{word}")(**{key: value for key, value in command.items() if key != "do"})
         if isinstance(answer, int):
@@ -45,7 +45,7 @@ class Machine:
         return sorted_by_keys(answer if "fault" in answer else {"ok": word} | answer)
 
     def reply(self, command: dict[str, Any]) -> dict[str, Any]:
-        """The reply to a command. Its steps are done too."""
+        """Does a command and its steps, and returns the reply."""
         reply = self.do(command)
         self.settle()
         return reply
@@ -77,7 +77,8 @@ class Machine:
                 n %= done
 
     def step(self, way: str) -> None:
-        """The planes after the entry at the position, or before it. A half without a rule keeps its planes."""
+        """Replaces the planes by those after the entry at the position, or by those before it. A half without a rule
+        keeps its planes."""
         entry, new = self.entries[self.position], list(self.torus.planes)
         of_half = self.torus.step_half if way == "after" else self.torus.undo_half
         for half, first in FIRST_PLANE.items():

@@ -65,7 +65,7 @@ class Rule:
 
     @cache
     def images(self, phase: int) -> list[int]:
-        """What each state of a block becomes."""
+        """For each state of a block, in order, the state that it becomes."""
         return [self.image(state, phase) for state in STATES]
 
     def image(self, state: int, phase: int) -> int:

@@ -34,38 +34,38 @@ class Scheduler:
                 yield event
 
     def choices(self) -> Iterator[tuple[float, Iterable[Event]]]:
-        """What may come next, and how often it does."""
+        """What may come next: each a weight, and the events."""
         host = self.host
         yield 0.5 + 0.2 * len(host.users), self.any_event()
         yield 2 if self.is_leased and self.random.random() < 0.3 else 0.3 if host.keys else 0.1, self.evictions()
         yield from ((2, self.ask(user)) for user in host.with_status("resting"))
-        yield from ((3, on("collect", user=user)) for user in host.with_status("finished"))
+        yield from ((3, one_event("collect", user=user)) for user in host.with_status("finished"))
         for board, held in host.boards.items():
             if held == DEAD:
-                yield 1.5, on("repair", board=board)
+                yield 1.5, one_event("repair", board=board)
             elif held == IDLE:
-                yield 0.05, on("fail", board=board)
-                yield from ((2, on("lease", user=user, board=board)) for user in host.with_status("queued"))
+                yield 0.05, one_event("fail", board=board)
+                yield from ((2, one_event("lease", user=user, board=board)) for user in host.with_status("queued"))
             else:
                 lost = self.trouble if host.user_on(board).left < host.user_on(board).home else 0.3
                 yield 3, self.some_bands(board)
-                yield from [(lost, on("preempt", board=board)), (lost, on("fail", board=board))]
+                yield from [(lost, one_event("preempt", board=board)), (lost, one_event("fail", board=board))]
 
     def ask(self, user: int) -> Iterator[Event]:
-        """A user asks for the next command."""
+        """Has a user ask for their next command, if there is one."""
         if command := self.askers[user]():
-            yield from on("ask", user=user, command=command)
+            yield from one_event("ask", user=user, command=command)
 
     def some_bands(self, board: int) -> Iterator[Event]:
-        """One band, those up to the end of a step or of the command, or any number."""
+        """Bands of a board's command: one, those up to the end of a step or of the command, or any number."""
         left, step = self.host.user_on(board).left, self.host.user_on(board).bands
         some = [self.random.randrange(1, left + 1) for _ in range(3)]
-        yield from on("band", board=board) * min(left, self.random.choice([1, left % step or step, left, *some]))
+        yield from one_event("band", board=board) * min(left, self.random.choice([1, left % step or step, left, *some]))
 
     def evictions(self) -> Iterator[Event]:
-        """A table leaves the cache, or all tables of a small one, and then one more although none is left."""
+        """Has one table leave the cache, or all tables of a small one, and then one more although none is left."""
         kept = len(self.host.keys)
-        yield from on("evict") * (kept + 1 if 0 < kept < 8 and self.random.random() < 0.5 else 1)
+        yield from one_event("evict") * (kept + 1 if 0 < kept < 8 and self.random.random() < 0.5 else 1)
 
     def any_event(self) -> Iterator[Event]:
         """An event of any user and board, those that aren't there among them. It may be refused."""
@@ -78,25 +78,25 @@ class Scheduler:
             named["board"] = self.random.choice([*boards, *boards, len(boards), LARGEST])
         if word == "ask":
             named["command"] = {"do": "run", "n": self.random.randrange(3)}
-        yield from on(word, **named)
+        yield from one_event(word, **named)
 
-    def to_rest(self, most: int = LARGEST) -> Iterator[Event]:
+    def bring_to_rest(self, most: int = LARGEST) -> Iterator[Event]:
         """Repairs all boards, and brings the users to rest who have this many bands left at most."""
         host = self.host
         for board in host.boards_with(DEAD):
-            yield from on("repair", board=board)
+            yield from one_event("repair", board=board)
         for board in host.boards_with(*host.with_status("out")):
             left = host.user_on(board).left
-            yield from on("band", board=board) * left if left <= most else on("preempt", board=board)
+            yield from one_event("band", board=board) * left if left <= most else one_event("preempt", board=board)
         for user in host.with_status("queued"):
             if host.users[user].left <= most:
                 board = self.random.choice(host.boards_with(IDLE))
-                yield from on("lease", user=user, board=board)
-                yield from on("band", board=board) * host.users[user].left
+                yield from one_event("lease", user=user, board=board)
+                yield from one_event("band", board=board) * host.users[user].left
         for user in host.with_status("finished"):
-            yield from on("collect", user=user)
+            yield from one_event("collect", user=user)
 
 
-def on(word: str, **named: Any) -> list[Event]:
-    """A list of one event."""
+def one_event(word: str, **named: Any) -> list[Event]:
+    """A list of one event, with this word and these fields."""
     return [{"event": word} | named]

@@ -18,15 +18,17 @@ DIGITS = bytes.maketrans(b"\0\1", b"01")
 
 
 def numbers(planes: list[bytes]) -> bytes:
-    """Of each cell the number that its bits in up to eight planes are, with the first plane's as the lowest."""
+    """For each cell the number whose bits are the cell's bits in up to eight planes. The first plane has the lowest
+    bit."""
     number = 0
     for place, plane in enumerate(planes):
         number |= int.from_bytes(plane, "little") << place
     return number.to_bytes(len(planes[0]), "little")
 
 
-def states_left(rule: Rule, planes: list[bytes]) -> bytes:
-    """What a rule's words say to what each cell sees, plane by plane in the order of the rule's names."""
+def rule_outputs(rule: Rule, planes: list[bytes]) -> bytes:
+    """What the rule writes at each cell: the lower bit and twice the upper one. `planes` has what cells see under each
+    of the rule's names, in their order."""
     lower, upper = numbers(planes[:8]), numbers(planes[8:]) if planes[8:] else b""
     if not upper:
         return lower.translate(rule.tables[0])
@@ -38,7 +40,7 @@ def states_left(rule: Rule, planes: list[bytes]) -> bytes:
 
 
 def shifted(row: bytes, columns: int) -> bytes:
-    """At each cell what is so many columns further east."""
+    """A row in which each cell has the state of the one so many columns further east."""
     return row[columns:] + row[:columns]
 
 
@@ -79,7 +81,7 @@ class Torus:
     def step_half(self, rule: Rule, grid: str, phase: int) -> list[list[bytes]]:
         """The two planes of the rule's half after a step."""
         rows, half = range(self.side), rule.key.half
-        states = states_left(
+        states = rule_outputs(
             rule, [b"".join(self.shown(name, half, grid, phase, y) for y in rows) for name in rule.names]
         )
         bits = (states.translate(BITS[place]) for place in (0, 1))

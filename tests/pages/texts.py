@@ -29,7 +29,7 @@ def sources_of(crate: str) -> list[Path]:
 
 
 def named(text: str) -> list[str]:
-    """What stands in backticks."""
+    """The pieces of a text that stand in backticks."""
     return re.findall(r"`([^`]+)`", text)
 
 

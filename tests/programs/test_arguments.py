@@ -15,7 +15,7 @@ from typing import Any, NamedTuple
 
 import pytest
 from oracle.lines import plain
-from oracle.schedules import on
+from oracle.schedules import one_event
 from support.commands import Command, cycle_command, do, rule_command
 from support.programs import TOP, Host, Peer, Ran, ran, wait_until
 
@@ -93,14 +93,14 @@ def filled(number: int) -> list[Command]:
     """Events that have a table filled, of a rule of its own. A rule that a cycle names can't be defined anew."""
     free, cycle = (cycle_command((name, "-", "EVEN", 0)) for name in "-R")
     rule = rule_command("R", "A", "N/VONN", "&/CENTERS", f": R {number} DROP CENTER >PLN0 ;")
-    collect, run = on("collect", user=1), on("ask", user=1, command=do("run", n=1))
-    asks = [event for command in (free, rule, cycle) for event in on("ask", user=1, command=command) + collect]
-    return asks + run + on("lease", user=1, board=0) + on("band", board=0) * 16 + collect
+    collect, run = one_event("collect", user=1), one_event("ask", user=1, command=do("run", n=1))
+    asks = [event for command in (free, rule, cycle) for event in one_event("ask", user=1, command=command) + collect]
+    return asks + run + one_event("lease", user=1, board=0) + one_event("band", board=0) * 16 + collect
 
 
 @pytest.mark.parametrize(("words", "capacity"), CACHES.items())
 def test_a_cache_holds_the_tables_that_the_arguments_say(words: str, capacity: int, cam6: str) -> None:
-    events = [event for number in range(FILLED) for event in filled(number)] + on("evict") * EVICTED
+    events = [event for number in range(FILLED) for event in filled(number)] + one_event("evict") * EVICTED
     done = ran([cam6, "replay", *words.split()], b"".join(plain(event) + b"\n" for event in events), patience=PATIENCE)
     wanted = ['{"ok":"evict"}'] * capacity + ['{"refused":109}'] * (EVICTED - capacity)
     assert done.output.decode().splitlines()[-EVICTED:] == wanted

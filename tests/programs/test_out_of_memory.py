@@ -21,7 +21,7 @@ from examples.saving import SAVE, load
 from oracle.host import Replay
 from oracle.lines import lines_of, plain
 from oracle.machine import Machine, answers
-from oracle.schedules import on
+from oracle.schedules import one_event
 from support.commands import Command, cycle_command, do, rule_command
 from support.programs import PATIENCE, Host, NotListening, Peer, Ran, ran
 
@@ -71,8 +71,8 @@ SAVED_AND_LOADED = lines(*SAVED, cycle_of("T"), CLEAR, AGAIN, RUN, SAVE, load({}
 
 def asked(user: int, *commands: Command) -> list[Command]:
     """For each command an ask, and a collect of its reply."""
-    collect = on("collect", user=user)
-    return [event for command in commands for event in on("ask", user=user, command=command) + collect]
+    collect = one_event("collect", user=user)
+    return [event for command in commands for event in one_event("ask", user=user, command=command) + collect]
 
 
 def two_texts() -> Lines:
@@ -81,16 +81,16 @@ def two_texts() -> Lines:
     for user, word in ((1, "NORTH"), (2, "SOUTH")):
         events += asked(user, rule_command("R", *TEXTS[word]), cycle_of("R"), cell_at(5), cell_at(200))
     (ask, collect), (other_ask, other_collect) = asked(1, RUN), asked(2, RUN)
-    lease, other_lease = (on("lease", user=user, board=0) for user in (1, 2))
-    band, preempt = on("band", board=0), on("preempt", board=0)
-    events += [ask, other_ask, *on("evict"), *lease, *on("evict") * 2, *band * 8, *preempt]
+    lease, other_lease = (one_event("lease", user=user, board=0) for user in (1, 2))
+    band, preempt = one_event("band", board=0), one_event("preempt", board=0)
+    events += [ask, other_ask, *one_event("evict"), *lease, *one_event("evict") * 2, *band * 8, *preempt]
     events += [*other_lease, *band * 16, *lease, *band * 8, collect, other_collect]
     for user in (1, 2):
         events += asked(user, *(do("row", plane=0, row=row) for row in (4, 6, 199, 201)))
     return lines(*events)
 
 
-TWO_TEXTS, [EVICT] = two_texts(), lines(*on("evict"))
+TWO_TEXTS, [EVICT] = two_texts(), lines(*one_event("evict"))
 
 
 @cache

@@ -15,7 +15,7 @@ from hypothesis import strategies as st
 from hypothesis.stateful import precondition, rule
 from oracle.host import DEAD, IDLE, REFUSALS, Replay
 from oracle.machine import Machine
-from oracle.schedules import LARGEST, Scheduler, on
+from oracle.schedules import LARGEST, Scheduler, one_event
 from programs.asking import Asking
 from support.commands import Command, do
 from support.stateful import play
@@ -127,10 +127,10 @@ class Schedules(Asking):
     def teardown(self) -> None:
         """Brings the users to rest who haven't many bands left, and compares their machines."""
         with self.process:
-            for event in Scheduler(Random(0), self.host, {}).to_rest(MOST_BANDS):
+            for event in Scheduler(Random(0), self.host, {}).bring_to_rest(MOST_BANDS):
                 self.tell(event)
             for user in self.host.with_status("resting")[:6]:
-                for event in on("ask", user=user, command=do("save")) + on("collect", user=user):
+                for event in one_event("ask", user=user, command=do("save")) + one_event("collect", user=user):
                     self.tell(event)
             self.end(b"")
 

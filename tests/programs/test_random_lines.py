@@ -15,7 +15,7 @@ from hypothesis import strategies as st
 from oracle.host import Replay
 from oracle.lines import Unclear, lines_of, plain
 from oracle.machine import Alone, Machine
-from oracle.schedules import on
+from oracle.schedules import one_event
 from programs.breaking import Breaker
 from support.commands import Command, cycle_command, do, rule_command
 from support.programs import ran
@@ -35,9 +35,9 @@ COMMANDS = [*BEGIN, *(do(way, n=1) for way in ("run", "back")), *(do(word, plane
 COMMANDS += [do("row", plane=0, row=7), do("colours", row=7), do("drop", name="T"), do("rules"), SAVE]
 COMMANDS += [do("map", colours=[*range(15, -1, -1)]), do("count", mask=2)]
 LOAD = load(Machine(128).do(SAVE)["machine"])
-EVENTS = [event for command in [*COMMANDS, LOAD] for event in on("ask", user=1, command=command)]
-EVENTS += [*on("lease", user=1, board=0), *on("evict"), *on("collect", user=1), LOAD]
-EVENTS += [event for word in ("band", "preempt", "fail", "repair") for event in on(word, board=0)]
+EVENTS = [event for command in [*COMMANDS, LOAD] for event in one_event("ask", user=1, command=command)]
+EVENTS += [*one_event("lease", user=1, board=0), *one_event("evict"), *one_event("collect", user=1), LOAD]
+EVENTS += [event for word in ("band", "preempt", "fail", "repair") for event in one_event(word, board=0)]
 
 
 def compare(command: list[str], oracle: Alone | Replay, lines: list[bytes]) -> None:

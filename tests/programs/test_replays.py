@@ -113,7 +113,7 @@ class Play:
             self.next_lines()
             if not self.left and self.others >= LEAST_OTHERS:
                 break
-        for event in scheduler.to_rest():
+        for event in scheduler.bring_to_rest():
             self.send(plain(event), plain(self.replay.host.apply(event)))
 
 

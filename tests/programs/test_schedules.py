@@ -8,7 +8,7 @@ from random import Random
 import pytest
 from oracle.host import Replay
 from oracle.lines import plain
-from oracle.schedules import Scheduler, on
+from oracle.schedules import Scheduler, one_event
 from programs.test_examples import written_for
 from support.commands import Asker, Command, do
 from support.line_process import LineProcess
@@ -38,7 +38,7 @@ class Schedule:
         scheduler = Scheduler(random, self.host, {user: asker.command for user, asker in askers.items()})
         for event in islice(scheduler.events(), EVENTS):
             self.send(event)
-        for event in scheduler.to_rest():
+        for event in scheduler.bring_to_rest():
             self.send(event)
         for user in askers:
             self.ask(user, do("save"))
@@ -58,7 +58,7 @@ class Schedule:
 
     def ask(self, user: int, command: Command) -> None:
         """A command that is finished at once, and its reply."""
-        for event in on("ask", user=user, command=command) + on("collect", user=user):
+        for event in one_event("ask", user=user, command=command) + one_event("collect", user=user):
             self.send(event)
 
     def compare(self, cam6: str) -> None:

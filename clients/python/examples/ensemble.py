@@ -103,7 +103,7 @@ class Done:
 # What a worker does.
 
 
-def counted(plan: Plan, rule: str, seed: int, steps: int, saved: Optional[bytes]) -> tuple[Counts, bytes]:
+def run_machine(plan: Plan, rule: str, seed: int, steps: int, saved: Optional[bytes]) -> tuple[Counts, bytes]:
     """The counts of a machine of its own, after each `every` of these steps, and the machine saved after them.
 
     If there is no saved machine it begins with random cells, and the first count is of those. The machine is asked by
@@ -125,8 +125,9 @@ def counted(plan: Plan, rule: str, seed: int, steps: int, saved: Optional[bytes]
     return first + results[begun + 1 :: 2], after
 
 
-def kept(path: str) -> Optional[tuple[Counts, bytes]]:
-    """The counts and the saved machine of a part that is done, or None. A file that was cut short counts as none."""
+def read_part(path: str) -> Optional[tuple[Counts, bytes]]:
+    """Reads the file of a part: its counts, and the machine saved after it. Returns None if the part is not done. A
+    file that was cut short counts as none."""
     try:
         with open(path, "rb") as file:
             counts, saved, _ = file.read().split(b"\n")
@@ -135,20 +136,20 @@ def kept(path: str) -> Optional[tuple[Counts, bytes]]:
     return json.loads(counts), saved
 
 
-def kept_or_done(plan: Plan, rule: str, seed: int, number: int) -> Counts:
-    """The counts of a part, which is done if the folder doesn't have it yet."""
+def counts_of_part(plan: Plan, rule: str, seed: int, number: int) -> Counts:
+    """Returns the counts of a part. Does the part first if the folder doesn't have it yet."""
     begin, end = plan.span(number)
     path = plan.path(rule, seed, number)
-    found = kept(path)
+    found = read_part(path)
     if found:
         return found[0]
-    before = kept(plan.path(rule, seed, number - 1)) if number else None
+    before = read_part(plan.path(rule, seed, number - 1)) if number else None
     if number and not before:
         raise FileNotFoundError(f"{plan.folder} lacks the part before: do all workers see this folder?")
     half = f"{path}.{plan.run}.{os.uname().nodename}.{os.getpid()}.half"
     with open(half, "wb") as file:
         try:
-            counts, saved = counted(plan, rule, seed, end - begin, before[1] if before else None)
+            counts, saved = run_machine(plan, rule, seed, end - begin, before[1] if before else None)
         except BaseException:
             os.unlink(half)
             raise
@@ -161,19 +162,19 @@ def run_part(rule: str, seed: int, plan: Plan, number: int) -> tuple[Counts, flo
     """The counts of a part, and how many seconds it took here."""
     began = time.perf_counter()
     if plan.folder is None:
-        counts = counted(plan, rule, seed, plan.steps, None)[0]
+        counts = run_machine(plan, rule, seed, plan.steps, None)[0]
     else:
-        counts = kept_or_done(plan, rule, seed, number)
+        counts = counts_of_part(plan, rule, seed, number)
     return counts, time.perf_counter() - began
 
 
 # What this computer does.
 
 
-def serial(plan: Plan, tasks: Sequence[Task]) -> Done:
-    """All tasks, one after another, each as a whole."""
+def run_serially(plan: Plan, tasks: Sequence[Task]) -> Done:
+    """Runs all tasks, one after another, each as a whole."""
     began = time.perf_counter()
-    counts = {(rule, seed): counted(plan, rule, seed, plan.steps, None)[0] for rule, seed in tasks}
+    counts = {(rule, seed): run_machine(plan, rule, seed, plan.steps, None)[0] for rule, seed in tasks}
     seconds = time.perf_counter() - began
     return Done(counts, seconds, seconds)
 
@@ -215,8 +216,9 @@ def client_of(asked: argparse.Namespace) -> Iterator[Any]:
                 client.wait_for_workers(asked.workers, timeout=TO_START)
 
 
-def submitted(client: Any, plan: Plan, tasks: Sequence[Task], number: int, retries: int) -> list[Any]:
-    """A part of each of these tasks, as futures. Later parts go first, so that tasks end early."""
+def submit(client: Any, plan: Plan, tasks: Sequence[Task], number: int, retries: int) -> list[Any]:
+    """Submits a part of each of these tasks to Dask, and returns their futures. Later parts go first, so that tasks end
+    early."""
     futures: list[Any] = client.map(
         run_part,
         [rule for rule, _ in tasks],
@@ -231,23 +233,25 @@ def submitted(client: Any, plan: Plan, tasks: Sequence[Task], number: int, retri
     return futures
 
 
-def halves(plan: Plan) -> list[str]:
-    """The names of the parts that were begun in this run and not ended."""
+def unfinished_parts(plan: Plan) -> list[str]:
+    """The names of the files of parts that this run began and has not ended."""
     assert plan.folder
     return [name for name in os.listdir(plan.folder) if f".{plan.run}." in name and name.endswith(".half")]
 
 
 def worker_of(half: str) -> int:
-    """The process that writes a part."""
+    """The process that writes a part, by the name of the part's file."""
     return int(half.split(".")[-2])
 
 
-def killed(plan: Plan) -> bool:
-    """Kills a worker of this computer that is within a part, if there is one."""
-    for worker in map(worker_of, halves(plan)):
+def kill_worker(plan: Plan) -> bool:
+    """Kills a worker of this computer that is within a part, if there is one. Returns whether one was killed so."""
+    for worker in map(worker_of, unfinished_parts(plan)):
         os.kill(worker, signal.SIGKILL)
         time.sleep(0.1)
-        if worker in map(worker_of, halves(plan)):  # If not, its part was just ending. It may have begun another one.
+        if worker in map(
+            worker_of, unfinished_parts(plan)
+        ):  # If not, its part was just ending. It may have begun another one.
             return True
     return False
 
@@ -261,8 +265,9 @@ def error_of(result: Any) -> Optional[BaseException]:
     return next((error for error in errors if isinstance(error, BaseException)), None)
 
 
-def by_dask(plan: Plan, tasks: Sequence[Task], asked: argparse.Namespace) -> Done:
-    """All tasks by Dask. Raises `Failed` if a part was tried as often as it may be.
+def run_by_dask(plan: Plan, tasks: Sequence[Task], asked: argparse.Namespace) -> Done:
+    """Runs all tasks by Dask. With `--kill N` also kills a worker after N parts. Raises `Failed` if a part was tried as
+    often as it may be.
 
     A part is submitted when the part before it has come back. So no task of Dask needs the result of another one, which
     may be lost with its worker.
@@ -270,7 +275,7 @@ def by_dask(plan: Plan, tasks: Sequence[Task], asked: argparse.Namespace) -> Don
     with client_of(asked) as client:
         workers = sum(client.nthreads().values())
         began = time.perf_counter()
-        places = {future: (task, 0) for future, task in zip(submitted(client, plan, tasks, 0, asked.retries), tasks)}
+        places = {future: (task, 0) for future, task in zip(submit(client, plan, tasks, 0, asked.retries), tasks)}
         to_kill, within = asked.kill, 0.0
         found: dict[tuple[Task, int], Counts] = {}
         coming = dask().as_completed(places, with_results=True, raise_errors=False)
@@ -282,10 +287,10 @@ def by_dask(plan: Plan, tasks: Sequence[Task], asked: argparse.Namespace) -> Don
             found[task, number], seconds = result
             within += seconds
             if number + 1 < plan.parts:
-                [after] = submitted(client, plan, [task], number + 1, asked.retries)
+                [after] = submit(client, plan, [task], number + 1, asked.retries)
                 places[after] = task, number + 1
                 coming.add(after)
-            if to_kill and len(found) >= to_kill and killed(plan):
+            if to_kill and len(found) >= to_kill and kill_worker(plan):
                 to_kill = 0
                 print(f"a worker was killed after {len(found)} of {len(tasks) * plan.parts} parts")
         seconds = time.perf_counter() - began
@@ -293,9 +298,9 @@ def by_dask(plan: Plan, tasks: Sequence[Task], asked: argparse.Namespace) -> Don
     return Done(counts, seconds, within, workers)
 
 
-def cut_off(plan: Plan) -> int:
-    """How many parts of this run were cut off, as their worker was killed. What they left is removed."""
-    names = halves(plan)
+def remove_cut_off(plan: Plan) -> int:
+    """Removes what parts of this run left that were cut off, as their worker was killed. Returns how many these are."""
+    names = unfinished_parts(plan)
     for name in names:
         os.unlink(os.path.join(plan.folder or "", name))
     return len(names)
@@ -384,13 +389,13 @@ def why_refused(asked: argparse.Namespace) -> Optional[str]:
     return None
 
 
-def ran(asked: argparse.Namespace, folder: Optional[str]) -> int:
-    """Does what was asked for. Returns the exit status."""
+def run_tasks(asked: argparse.Namespace, folder: Optional[str]) -> int:
+    """Runs the tasks as the options say, and prints what came of it. Returns the exit status."""
     run = os.urandom(4).hex()
     plan = Plan(asked.program, asked.side, asked.steps, asked.every, asked.part, asked.limit, folder, run)
     tasks = [(rule, seed) for rule in asked.rules for seed in range(asked.seeds)]
-    alone = serial(plan, tasks) if asked.serial or asked.compare else None
-    shared = None if asked.serial else by_dask(plan, tasks, asked)
+    alone = run_serially(plan, tasks) if asked.serial or asked.compare else None
+    shared = None if asked.serial else run_by_dask(plan, tasks, asked)
     done = shared or alone
     assert done
     print(counts_text(plan, done))
@@ -399,7 +404,7 @@ def ran(asked: argparse.Namespace, folder: Optional[str]) -> int:
     if shared:
         print(times_text(shared, "Dask"))
         if folder:
-            print(f"parts that were cut off and done anew: {cut_off(plan)}")
+            print(f"parts that were cut off and done anew: {remove_cut_off(plan)}")
     if asked.output:
         with open(asked.output, "w", encoding="utf-8") as file:
             json.dump({f"{rule}/{seed}": counts for (rule, seed), counts in done.counts.items()}, file, indent=0)
@@ -429,7 +434,7 @@ def main() -> int:
         elif not asked.scheduler:
             folder = stack.enter_context(tempfile.TemporaryDirectory())
         try:
-            return ran(asked, folder)
+            return run_tasks(asked, folder)
         except (cam6.Cam6Error, Failed, OSError) as error:
             print(f"ensemble.py: {error}", file=sys.stderr)
     return 1

@@ -43,8 +43,8 @@ def lines_of(text: str) -> List[str]:
     return text.splitlines(keepends=True)
 
 
-def executed(text: str, number: int, names: Dict[str, Any]) -> List[Dict[str, Any]]:
-    """The outputs of a cell."""
+def execute_cell(text: str, number: int, names: Dict[str, Any]) -> List[Dict[str, Any]]:
+    """Executes a cell, and returns its outputs."""
     tree, last = ast.parse(text), None
     end = tree.body[-1] if tree.body else None
     if isinstance(end, ast.Expr):
@@ -61,7 +61,7 @@ def executed(text: str, number: int, names: Dict[str, Any]) -> List[Dict[str, An
         outputs.append(
             {"output_type": "execute_result", "execution_count": number, "metadata": {}, "data": data_of(value)}
         )
-    for png in figures():
+    for png in take_figures():
         data = {"image/png": png, "text/plain": ["<Figure>"]}
         outputs.append({"output_type": "display_data", "metadata": {}, "data": data})
     return outputs
@@ -75,8 +75,8 @@ def data_of(value: Any) -> Dict[str, Any]:
     return data
 
 
-def figures() -> List[str]:
-    """The figures that are open, which are closed then."""
+def take_figures() -> List[str]:
+    """Closes the open figures of matplotlib, and returns them as PNG files in Base64."""
     pyplot: Any = sys.modules.get("matplotlib.pyplot")
     found = []
     for number in pyplot.get_fignums() if pyplot else []:
@@ -95,7 +95,7 @@ def notebook(script: str) -> Dict[str, Any]:
         cell: Dict[str, Any] = {"cell_type": kind, "id": f"cell-{at}", "metadata": {}, "source": lines_of(text)}
         if kind == "code":
             number = 1 + sum(other["cell_type"] == "code" for other in cells)
-            cell.update(execution_count=number, outputs=executed(text, number, names))
+            cell.update(execution_count=number, outputs=execute_cell(text, number, names))
         cells.append(cell)
     kernel = {"display_name": "Python 3", "language": "python", "name": "python3"}
     return {
@@ -107,6 +107,7 @@ def notebook(script: str) -> Dict[str, Any]:
 
 
 def main() -> None:
+    """Writes the notebook of each script that the arguments name, or of all of them."""
     os.environ.setdefault("MPLBACKEND", "Agg")
     asked = sys.argv[1:] or NAMES
     for name in asked:

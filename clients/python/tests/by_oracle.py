@@ -14,7 +14,7 @@ from oracle.wirings import FIRST_PLANE, names_of
 from support.programs import private
 
 
-def kept(rule: Any) -> Rule:
+def oracle_rule(rule: Any) -> Rule:
     """The oracle's rule for one of the package. Fails if the text is no rule, or is too large."""
     made = rule_of(rule.half, rule.hood, rule.minor, rule.text)
     assert isinstance(made, Rule), (rule.text, made)
@@ -43,13 +43,13 @@ class Torus(torus.Torus):
     """A torus that steps by rules of the package."""
 
     def step(self, rule: Any, grid: str = "EVEN", phase: int = 0) -> None:
-        """A step by a rule of one half."""
+        """Does a step by a rule of one half."""
         first = FIRST_PLANE[rule.half]
-        self.planes[first : first + 2] = self.step_half(kept(rule), grid, phase)
+        self.planes[first : first + 2] = self.step_half(oracle_rule(rule), grid, phase)
 
 
-def played(program: str, commands: Iterable[dict[str, Any]], side: int = 128) -> list[dict[str, Any]]:
-    """A program's replies to commands."""
+def replies_of(program: str, commands: Iterable[dict[str, Any]], side: int = 128) -> list[dict[str, Any]]:
+    """The replies of a private machine to commands."""
     return [
         json.loads(reply) for reply in private(program, (compact(**command).decode() for command in commands), side)
     ]

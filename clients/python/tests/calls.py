@@ -33,8 +33,8 @@ def wanted(command: dict[str, Any] | None, reply: bytes) -> Any:
     return load_of(reply) if word == "save" else value[KEYS[word]] if word in KEYS else None
 
 
-def called(machine: Any, command: dict[str, Any]) -> Any:
-    """Does a command by its own call."""
+def call_method(machine: Any, command: dict[str, Any]) -> Any:
+    """Does a command by the method that stands for it."""
     word, rest = command["do"], {key: value for key, value in command.items() if key != "do"}
     if word == "cycle":
         return machine.cycle(*rest["entries"])
@@ -59,7 +59,7 @@ class Calls(Sessions):
         self.way = f"./cam6 alone --side {limit}"
 
     def say(self, line: bytes) -> None:
-        """A line by its own call, unless it asks for too many steps. A call may ask for more steps than a line."""
+        """Does a line by its own call, unless it asks for too many steps. A call may ask for more steps than a line."""
         try:
             value = read_line(line, is_command)
         except Unclear:
@@ -76,9 +76,9 @@ class Calls(Sessions):
             assert b'"fault"' in reply
 
     def call(self, command: dict[str, Any] | None, line: bytes, reply: bytes) -> None:
-        """A call. What comes of it has to be what the reply says."""
+        """Does a command by its own call, or sends the line. Fails if what comes of it is not what the reply says."""
         try:
-            got = by_oracle.value(called(self.calls, command) if command else self.calls.ask(line))
+            got = by_oracle.value(call_method(self.calls, command) if command else self.calls.ask(line))
         except cam6.Fault as fault:
             assert type(fault) is FAULTS[fault.number]
             got = fault.reply
@@ -91,7 +91,7 @@ class Calls(Sessions):
         self.words.add(command["do"] if command else "")
 
     def teardown(self) -> None:
-        """In the end the whole machine is compared."""
+        """Compares the whole machine in the end."""
         with self.calls:
             assert self.calls.save() == load_of(self.oracle.answer(lines.SAVE))
 
@@ -104,9 +104,9 @@ class Batches(Calls):
         self.many, self.want = self.calls.pipeline(), list[Any]()
 
     def call(self, command: dict[str, Any] | None, line: bytes, reply: bytes) -> None:
-        """A call that is done later."""
+        """Adds a call to the pipeline. It is done and compared later."""
         if command and not (command["do"] == "load" and b'"fault"' in reply):
-            called(self.many, command)
+            call_method(self.many, command)
             self.want.append(wanted(command, reply))
 
     @rule()
@@ -119,6 +119,6 @@ class Batches(Calls):
         self.want.clear()
 
     def teardown(self) -> None:
-        """Does the last calls."""
+        """Does the calls that are left, and compares the whole machine."""
         self.execute()
         super().teardown()

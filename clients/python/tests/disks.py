@@ -55,10 +55,10 @@ class File:
 
     def write(self, data: bytes) -> int:
         """Writes data, or as much of it as comes before a failure."""
-        failure = self.disk.failing()
+        failure = self.disk.count_act()
         if failure:
             self.file.write(data[: failure.cut])
-            raise self.disk.failed(failure)
+            raise self.disk.error_of(failure)
         return self.file.write(data)
 
     def truncate(self, size: int) -> int:
@@ -86,24 +86,24 @@ class Disk:
 
     @contextmanager
     def used(self) -> Iterator[None]:
-        """While it lasts `cam6.journal` uses this disk."""
+        """Has `cam6.journal` use this disk within the context."""
         with mock.patch.object(journal, "open", self.open, create=True):
             with mock.patch.object(journal, "os", System(self)):
                 yield
 
     def begin(self, failure: Optional[Failure]) -> None:
-        """A program begins. It is to fail so."""
+        """Begins a program on this disk, in which this failure is to happen."""
         self.failure, self.ended, self.count = failure, None, 0
 
-    def failing(self) -> Optional[Failure]:
-        """Counts an act. Returns how it fails, if it does."""
+    def count_act(self) -> Optional[Failure]:
+        """Counts an act. Returns the failure that happens in it, if one does. Raises `Crash` after the end."""
         if self.ended:
             raise Crash
         self.count += 1
         return self.failure if self.failure and self.count > self.failure.at else None
 
-    def failed(self, failure: Failure) -> BaseException:
-        """What is raised by a failure."""
+    def error_of(self, failure: Failure) -> BaseException:
+        """Lets a failure happen, and returns the exception to raise."""
         self.failure = None
         if failure.kind == "error":
             return OSError(ENOSPC, "No space left on device")
@@ -115,12 +115,12 @@ class Disk:
     @contextmanager
     def act(self) -> Iterator[None]:
         """Counts an act that is done whole, or not at all."""
-        failure = self.failing()
+        failure = self.count_act()
         if failure and failure.kind != "interrupt":
-            raise self.failed(failure)
+            raise self.error_of(failure)
         yield
         if failure:
-            raise self.failed(failure)
+            raise self.error_of(failure)
 
     def open(self, path: str, mode: str, buffering: int = -1) -> File:
         """Opens a file."""
@@ -129,7 +129,7 @@ class Disk:
         return self.files[-1]
 
     def end(self) -> None:
-        """The program has ended, and the computer is there again."""
+        """Ends the program: closes its files. If the power failed, loses what is not on the disk."""
         for file in self.files:
             getattr(file.file, "raw", file.file).close()  # What is in a buffer is lost.
         self.files.clear()
@@ -143,7 +143,7 @@ class Disk:
         return None if data is None else data[: content.synced + kept]
 
     def lose(self, failure: Failure) -> None:
-        """What is not on the disk is lost, but for some of it."""
+        """Cuts the journal to what is on the disk, and to as much of the rest as the failure leaves."""
         data = self.left(failure.kept, failure.renames)
         self.before.clear()
         self.path.unlink(missing_ok=True)
@@ -159,7 +159,7 @@ class System:
         self.disk = disk
 
     def fsync(self, number: int) -> None:
-        """Has the content of a file on the disk, or the names of the folder. After the end nothing happens."""
+        """Notes that the content of a file is on the disk, or the names of the folder. Does nothing after the end."""
         if self.disk.ended:
             return
         with self.disk.act():

@@ -124,7 +124,7 @@ class Seat:
     address: tuple[str, int] = ("a.test", 6006)
     count: int = 0
 
-    def tried(self, seconds: float) -> Seat:
+    def find_seat(self, seconds: float) -> Seat:
         """A connection that has the seat."""
         return self
 

@@ -402,7 +402,7 @@ def tried() -> list[rules.Rule]:
 def test_the_program_names_the_same_cause(cam6: str) -> None:
     """It takes the texts, and undoes the rules that can be undone."""
     for rule in tried():
-        replies, cause = by_oracle.played(cam6, [*kept(rule), {"do": "back", "n": 0}]), rules.cause(rule)
+        replies, cause = by_oracle.replies_of(cam6, [*kept(rule), {"do": "back", "n": 0}]), rules.cause(rule)
         assert replies[:2] == [{"ok": "rule"}, {"ok": "cycle"}]
         if cause is None:
             assert replies[2] == {"ok": "back", "position": 0}
@@ -423,7 +423,7 @@ def test_steps_of_the_program(which: str, cam6: str) -> None:
         torus.planes[0][y] = bytes(source.randrange(2) for _ in range(128))
         commands.append({"do": "set", "plane": 0, "row": y, "bits": torus.digits(0, y)})
     commands += [*kept(rule), {"do": "run", "n": 2}]
-    replies = by_oracle.played(cam6, [*commands, *({"do": "plane", "plane": plane} for plane in (0, 1))])
+    replies = by_oracle.replies_of(cam6, [*commands, *({"do": "plane", "plane": plane} for plane in (0, 1))])
     for grid, phase in (rule.cycle * 2)[:2]:
         torus.step(rule, grid, phase)
     for plane, reply in enumerate(replies[-2:]):

@@ -17,7 +17,7 @@ from collections.abc import Sequence
 from typing import Optional
 
 from . import lines, local
-from .channels import connected
+from .channels import open_connection
 from .errors import Cam6Error, fault_of
 from .machine import Machine, side_of
 from .sessions import SEATED, TAKEN
@@ -41,7 +41,7 @@ def main(words: Optional[Sequence[str]] = None) -> int:
 
 
 def parser() -> argparse.ArgumentParser:
-    """The arguments."""
+    """Makes the parser of the arguments."""
     raw = argparse.RawDescriptionHelpFormatter
     top = argparse.ArgumentParser(prog="python -m cam6", description=__doc__, formatter_class=raw)
     parts = top.add_subparsers(dest="word", required=True, metavar="WORD")
@@ -74,7 +74,7 @@ def parser() -> argparse.ArgumentParser:
 
 
 def add_numbers(part: argparse.ArgumentParser) -> None:
-    """The numbers of a film."""
+    """Adds the options of `film` that take a number."""
     numbers = (
         ("frames", 60, "pictures"),
         ("every", 1, "steps after each picture"),
@@ -97,8 +97,9 @@ def lines_of(path: str) -> list[bytes]:
     return found if found[-1] else found[:-1]
 
 
-def played(machine: Machine, sent: Sequence[bytes], path: str, is_printed: bool) -> int:
-    """Sends lines, and explains each fault on standard error. Returns how many there were."""
+def play_lines(machine: Machine, sent: Sequence[bytes], path: str, is_printed: bool) -> int:
+    """Sends lines, and explains each fault on standard error. Prints the replies if `is_printed`. Returns how many
+    faults there were."""
     faults = 0
     for first in range(0, len(sent), AT_ONCE):
         some = sent[first : first + AT_ONCE]
@@ -116,15 +117,15 @@ def play(asked: argparse.Namespace) -> int:
     """Sends the lines of a file, and prints the replies."""
     sent = lines_of(asked.file)
     with local(asked.program, asked.side_limit) as machine:
-        faults = played(machine, sent, asked.file, True)
+        faults = play_lines(machine, sent, asked.file, True)
         if asked.show:
             machine._side = side_of(machine._transport)  # The lines may have changed it.
             machine.show()
     return 1 if faults else 0
 
 
-def path_of(name: str) -> str:
-    """The file that a name stands for."""
+def find_lines_file(name: str) -> str:
+    """Returns the first of NAME, NAME.lines and examples/NAME.lines that is a file. Raises ValueError if none is."""
     paths = [name, f"{name}.lines", os.path.join("examples", f"{name}.lines")]
     found = next((path for path in paths if os.path.isfile(path)), None)
     if found is None:
@@ -134,9 +135,9 @@ def path_of(name: str) -> str:
 
 def film(asked: argparse.Namespace) -> int:
     """Makes an animated PNG file."""
-    path = path_of(asked.name)
+    path = find_lines_file(asked.name)
     with local(asked.program, asked.side_limit) as machine:
-        if played(machine, lines_of(path), path, False):
+        if play_lines(machine, lines_of(path), path, False):
             return 1
         pictures = machine.film(asked.frames, asked.every, asked.plane, asked.back, ms=asked.ms, scale=asked.scale)
         data = pictures.apng()
@@ -149,7 +150,7 @@ def seats(asked: argparse.Namespace) -> int:
     """Prints which seats are free. Each seat is taken for a moment to find that out."""
     address = checked_address(asked.address, 6006)
     for seat in range(1, MOST_SEATS + 1):
-        there = connected(address, None, None, 5)
+        there = open_connection(address, None, None, 5)
         reply = there.query([b'{"seat":%d}' % seat])[0]
         there.close()
         if reply not in (SEATED, TAKEN):
@@ -159,7 +160,7 @@ def seats(asked: argparse.Namespace) -> int:
 
 
 def report_no_host(address: str, reply: bytes) -> int:
-    """Something else than a host listens there."""
+    """Prints that something else than a host answers at an address. Returns the exit status."""
     print(f"cam6 seats: {address} answers {reply[:60]!r}. Does cam6 serve really run there?", file=sys.stderr)
     return 1
 

@@ -294,10 +294,10 @@ class Connection(Channel):
         self._stream.close()
 
 
-def connected(
+def open_connection(
     address: tuple[str, int], tls: Union[None, bool, ssl.SSLContext], server_name: Optional[str], seconds: float
 ) -> Connection:
-    """A connection to an address, made within some seconds. Raises `Lost`, and says what to do."""
+    """Opens a connection to an address within some seconds. Raises `Lost`, and says what to do."""
     try:
         stream = socket.create_connection(address, timeout=min(TO_CONNECT, seconds))
     except OSError as cause:

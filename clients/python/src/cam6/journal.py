@@ -64,7 +64,8 @@ class Journal:
 
     @property
     def side(self) -> int:
-        """The side of the machine that counts."""
+        """The side of the machine that the journal rebuilds: that of the last `side` command done since the load line,
+        else the load line's."""
         sides = (command_of(line).get("side") for line, reply in reversed(self.tail) if reply == b'{"ok":"side"}')
         return int(next(sides, None) or lines.side_of_load(self.load))
 
@@ -229,7 +230,7 @@ class Journal:
         try:
             lock(new, self.path)
             new.truncate(0)
-            data = lines.compact(self._first()) + b"\n"
+            data = lines.compact(self._first_line()) + b"\n"
             if new.write(data) != len(data):
                 raise OSError(f"the journal {self.path!r} can't be written whole: is the disk full?")
             if self.sync != "none":
@@ -246,7 +247,7 @@ class Journal:
             sync_folder(os.path.dirname(self.path) or ".")
         self._is_stale = False
 
-    def _first(self) -> dict[str, Any]:
+    def _first_line(self) -> dict[str, Any]:
         """All that is known, as the first line of a file. So a file that is cut has all of it, or is no journal."""
         return {
             "journal": 1,
@@ -272,7 +273,7 @@ def text_of(data: bytes) -> str:
 
 
 def bytes_of(text: str) -> bytes:
-    """The bytes of such a text."""
+    """The bytes of which `text_of` made this text."""
     return text.translate(_SHIFTED_BACK).encode("latin-1")
 
 

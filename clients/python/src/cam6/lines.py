@@ -105,7 +105,7 @@ def between(reply: bytes, head: bytes, tail: bytes) -> bytes:
 
 
 def nothing(replies: list[bytes]) -> None:
-    """What is read from a reply that says nothing but that the command was done."""
+    """Reads a reply that says only that the command was done: it has no value."""
 
 
 def _position(replies: list[bytes]) -> int:

@@ -371,12 +371,14 @@ class Machine:
         print(pictures.terminal(colours, palette=palette, crop=crop))
 
     def _repr_png_(self) -> Optional[bytes]:
+        """The picture of all cells for a notebook, as a PNG file. None if it cannot be made."""
         try:
             return self.png()
         except (Cam6Error, ImportError):
             return None
 
     def _repr_html_(self) -> Optional[str]:
+        """The picture of all cells for a notebook, as HTML. None if it cannot be made."""
         data = self._repr_png_()
         if data is None:
             return None

@@ -266,10 +266,10 @@ def _runs(rows: Rows) -> Iterator[str]:
     for row in rows:
         ended = row.rstrip(b"\0")
         if ended and ends:
-            yield _run(ends, "$")
+            yield _rle_run(ends, "$")
             ends = 0
         for found in re.finditer(rb"(.)\1*", ended, re.DOTALL):
-            yield _run(len(found[0]), signs[found[1][0]])
+            yield _rle_run(len(found[0]), signs[found[1][0]])
         ends += 1
     yield "!"
 
@@ -280,8 +280,8 @@ def _sign(state: int) -> str:
     return (chr(111 + more) if more else "") + chr(65 + letter)
 
 
-def _run(count: int, sign: str) -> str:
-    """A run of equal signs as the text has it: its count, if above 1, and the sign."""
+def _rle_run(count: int, sign: str) -> str:
+    """A run of equal signs as run-length text: its count, if above 1, and the sign."""
     return sign if count == 1 else f"{count}{sign}"
 
 

@@ -44,7 +44,7 @@ class Picture:
     def png(self) -> bytes:
         """The picture as a PNG file with a palette, of 1, 2 or 4 bits a pixel."""
         depth = self._depth()
-        return _file(self._head(depth), _chunk(b"IDAT", self._packed(depth)))
+        return _png_file(self._head(depth), _chunk(b"IDAT", self._packed(depth)))
 
     def ppm(self) -> bytes:
         """The picture as a netpbm file in the format P6, as `cam6_draw --ppm` writes it."""
@@ -61,6 +61,7 @@ class Picture:
         _save(path, makers.get(_end_of(path)), "a picture's name ends in .png or .ppm")
 
     def _repr_png_(self) -> bytes:
+        """The picture for a notebook, as a PNG file."""
         return self.png()
 
     def _depth(self) -> int:
@@ -101,7 +102,7 @@ class Film:
         for number, picture in enumerate(pictures):
             if (picture.width, picture.height) != (first.width, first.height):
                 raise PictureError(f"picture {number} of the film has another size than the first one")
-        self.pictures, self.ms = list(pictures), _within("ms", ms, 1, 65_535)
+        self.pictures, self.ms = list(pictures), _checked_number("ms", ms, 1, 65_535)
         self.width, self.height = first.width, first.height
 
     def __len__(self) -> int:
@@ -122,7 +123,7 @@ class Film:
             else:
                 parts.append(_chunk(b"fdAT", struct.pack(">I", order) + packed))
                 order += 1
-        return _file([head, parts[0], palette], *parts[1:])
+        return _png_file([head, parts[0], palette], *parts[1:])
 
     def gif(self) -> bytes:
         """The film as a GIF file. A pause is a multiple of ten milliseconds there. Raises ImportError without
@@ -149,6 +150,7 @@ class Film:
         _save(path, makers.get(_end_of(path)), "a film's name ends in .png, .apng or .gif")
 
     def _repr_png_(self) -> bytes:
+        """The film for a notebook, as an animated PNG file."""
         return self.apng()
 
 
@@ -166,7 +168,7 @@ def picture(
     crop: column, row, width and height of what is drawn, across the seams; width and height are 1 to 512. Raises
     PictureError for anything else.
     """
-    scale = _within("scale", scale, 1, MOST_SCALE)
+    scale = _checked_number("scale", scale, 1, MOST_SCALE)
     return Picture(_cropped(_colour_rows(cells, colours), crop), lights_of(palette), scale)
 
 
@@ -200,7 +202,7 @@ def terminal(
     The arguments are those of `picture`. home: the text begins at the upper left corner and clears what is below, as
     `cam6_draw --text` does, so that one picture replaces the other.
     """
-    scale = _within("scale", scale, 1, MOST_SCALE)
+    scale = _checked_number("scale", scale, 1, MOST_SCALE)
     hues = [_hue(light) for light in lights_of(palette)]
     rows = [row for row in _cropped(_colour_rows(cells, colours), crop) for _ in range(scale)]
     lines = []
@@ -246,7 +248,7 @@ def _colour_rows(cells: Any, colours: Optional[Sequence[int]]) -> List[bytes]:
             raise PictureError(f"row {number} of the cells has a number that is not from 0 to 15")
     if colours is None:
         return rows
-    numbers = [_within("a colour", colour, 0, 15) for colour in colours]
+    numbers = [_checked_number("a colour", colour, 0, 15) for colour in colours]
     if len(numbers) != 16:
         raise PictureError(f"there are {len(numbers)} colours, and a cell has sixteen states")
     return [row.translate(bytes(numbers) + bytes(240)) for row in rows]
@@ -281,7 +283,7 @@ def _cropped(rows: List[bytes], crop: Optional[Crop]) -> List[bytes]:
         column, row, width, height = map(operator.index, crop)
     except (TypeError, ValueError):
         raise PictureError(f"crop is a column, a row, a width and a height, not {crop!r}") from None
-    width, height = _within("the width of crop", width, 1, MOST_WINDOW), _within(
+    width, height = _checked_number("the width of crop", width, 1, MOST_WINDOW), _checked_number(
         "the height of crop", height, 1, MOST_WINDOW
     )
     side = len(rows[0])
@@ -290,8 +292,8 @@ def _cropped(rows: List[bytes], crop: Optional[Crop]) -> List[bytes]:
     return [(cells * ((column + width - 1) // side + 1))[column : column + width] for cells in chosen]
 
 
-def _within(what: str, number: Any, least: int, most: int) -> int:
-    """A whole number from `least` to `most`. Raises PictureError for another value."""
+def _checked_number(what: str, number: Any, least: int, most: int) -> int:
+    """Returns a whole number from `least` to `most`. Raises PictureError for another value."""
     try:
         value = operator.index(number)
     except TypeError:
@@ -312,8 +314,8 @@ def _chunk(kind: bytes, body: bytes) -> bytes:
     return struct.pack(">I", len(body)) + kind + body + struct.pack(">I", zlib.crc32(kind + body))
 
 
-def _file(head: Sequence[bytes], *chunks: bytes) -> bytes:
-    """A PNG file of these chunks."""
+def _png_file(head: Sequence[bytes], *chunks: bytes) -> bytes:
+    """The bytes of a PNG file: its signature, these chunks, and the chunk that ends it."""
     return b"".join([b"\x89PNG\r\n\x1a\n", *head, *chunks, _chunk(b"IEND", b"")])
 
 

@@ -121,7 +121,7 @@ def outer_totalistic(
     neighbours: 8 or 4. Counts are 0 to 8, or 0 to 4. Raises RuleError for another number.
     """
     count, hood = _counted(neighbours)
-    births, survivals = _counts(born, neighbours), _counts(stays, neighbours)
+    births, survivals = _checked_counts(born, neighbours), _checked_counts(stays, neighbours)
     # Of each count: neither, survival alone, birth alone, or both.
     cases = [("0", "CENTER", "NC", "1")[(k in survivals) + 2 * (k in births)] for k in range(neighbours + 1)]
     not_centre = ": NC CENTER 0= ; " if "NC" in cases else ""
@@ -136,7 +136,7 @@ def totalistic(counts: Union[str, Iterable[int]], *, neighbours: int = 8, half: 
     or 4. Raises RuleError for another number.
     """
     count, hood = _counted(neighbours)
-    chosen = _counts(map(int, _digits(counts)) if isinstance(counts, str) else counts, neighbours + 1)
+    chosen = _checked_counts(map(int, _digits(counts)) if isinstance(counts, str) else counts, neighbours + 1)
     cases = " ".join(str(int(k in chosen)) for k in range(neighbours + 2))
     return Rule(
         f": SUM CENTER {count} + ; : R SUM {{ {cases} }} {_lower(half)} ;",
@@ -162,7 +162,7 @@ def generations(notation: str, *, half: str = "A") -> Rule:
     if states != 3:
         raise RuleError(f"{notation!r} has {states} states: half a machine has room for 2 or 3 of a Generations rule")
     count, hood = _counted(neighbours)
-    births, survivals = _counts(born, neighbours), _counts(stays, neighbours)
+    births, survivals = _checked_counts(born, neighbours), _checked_counts(stays, neighbours)
     alive = " ".join("1" if k in survivals else "2" for k in range(neighbours + 1))
     ready = " ".join(str(int(k in births)) for k in range(neighbours + 1))
     rule = f": R CENTER' IF 0 ELSE SUM CENTER IF {{ {alive} }} ELSE {{ {ready} }} THEN THEN {_both(half)} ;"
@@ -191,8 +191,8 @@ def _counted(neighbours: int) -> Tuple[str, str]:
     return (_EIGHT, "N/MOORE") if neighbours == 8 else (_FOUR, "N/VONN")
 
 
-def _counts(counts: Iterable[int], most: int) -> List[int]:
-    """The numbers of a list of counts. Raises RuleError if one is above `most`."""
+def _checked_counts(counts: Iterable[int], most: int) -> List[int]:
+    """Returns the counts as a list. Raises RuleError unless each is a whole number from 0 to `most`."""
     numbers = [_number(count) for count in _listed(counts)]
     for number in numbers:
         if not 0 <= number <= most:
@@ -450,7 +450,7 @@ def _wiring_of(parameters: List[str], hood: Optional[str], minor: Optional[str])
     for tried_hood in [hood] if hood else list(HOODS):
         default = ["&/PHASES", "&/HV", "&/CENTERS"] if tried_hood.startswith("N/MARG") else list(MINORS)
         for tried_minor in [minor] if minor else default:
-            names = [_wired(_name_of(parameter), tried_hood, tried_minor) for parameter in parameters]
+            names = [_name_in_wiring(_name_of(parameter), tried_hood, tried_minor) for parameter in parameters]
             if all(names):
                 return tried_hood, tried_minor, [name for name in names if name]
     raise RuleError(
@@ -459,8 +459,9 @@ def _wiring_of(parameters: List[str], hood: Optional[str], minor: Optional[str])
     )
 
 
-def _wired(name: str, hood: str, minor: str) -> Optional[str]:
-    """The name of the wiring for a parameter's name, or None if the wiring lacks it."""
+def _name_in_wiring(name: str, hood: str, minor: str) -> Optional[str]:
+    """Returns the name itself if the neighbourhood has it, else its `&` name if the minor assignment has that, else
+    None."""
     if name in HOODS[hood]:
         return name
     other = "&" + name.replace("OTHER", "CENTER") if name != "CENTER" and name != "CENTER'" else name
@@ -506,7 +507,7 @@ def _words_for(names: List[str], values: List[int]) -> str:
             changed = name if change == 1 else f"{name} {change} *"
             rest = _words_for(names[:k] + names[k + 1 :], low)
             return changed if rest == "0" else f"{rest} {changed} XOR"
-    flat = _flat(names, values)
+    flat = _flat_case(names, values)
     if len(names) <= 2 or _size(flat) <= 64:
         return flat
     split = min(
@@ -519,7 +520,7 @@ def _words_for(names: List[str], values: List[int]) -> str:
 
 
 def _needed(names: List[str], values: List[int]) -> Tuple[List[str], List[int]]:
-    """Without the names that nothing depends on."""
+    """The names on which the values depend, and the values by these names alone."""
     for k in reversed(range(len(names))):
         low, high = _halves(values, k)
         if low == high:
@@ -538,11 +539,11 @@ def _halves(values: List[int], k: int) -> Tuple[List[int], List[int]]:
 def _estimate(names: List[str], values: List[int]) -> int:
     """How long the words of a flat case would be."""
     names, values = _needed(names, values)
-    return _size(_flat(names, values)) if names else 1
+    return _size(_flat_case(names, values)) if names else 1
 
 
-def _flat(names: List[str], values: List[int]) -> str:
-    """A case over all that is seen. Names that stand for one another are counted."""
+def _flat_case(names: List[str], values: List[int]) -> str:
+    """Words of a case over all that is seen. Names that stand for one another are counted."""
     terms: List[Tuple[List[str], int]] = []
     weight = 1
     cases = [0]

@@ -14,7 +14,7 @@ from collections.abc import Iterator, Sequence
 from typing import Optional, Union
 
 from . import lines
-from .channels import Connection, Heard, connected
+from .channels import Connection, Heard, open_connection
 from .errors import Diverged, GaveUp, Lost, NoSeat, shortened
 from .journal import Journal
 
@@ -48,26 +48,28 @@ class Connector:
         self.address, self.seat = self.addresses[0], seat
         self.is_bound = False
 
-    def tried(self, seconds: float) -> Connection:
-        """A connection that has a seat: the last seat again if it is free, then any. Raises `Lost` or `NoSeat`."""
+    def find_seat(self, seconds: float) -> Connection:
+        """Opens a connection that has a seat: the last seat again if it is free, then any. Raises `Lost` or
+        `NoSeat`."""
         last: Union[Lost, NoSeat, None] = None
         at = self.addresses.index(self.address)
         for address in self.addresses[at:] + self.addresses[:at]:
             try:
-                return self._seated(address, time.monotonic() + seconds)
+                return self._seat_at(address, time.monotonic() + seconds)
             except (Lost, NoSeat) as cause:
                 last = cause if last is None or isinstance(cause, NoSeat) else last
         assert last is not None
         raise last
 
-    def _seated(self, address: Address, until: float) -> Connection:
-        """Tries the seats of one host in order. Raises `NoSeat` if none is free, and `Lost`."""
+    def _seat_at(self, address: Address, until: float) -> Connection:
+        """Tries the seats of one host in order, and returns a connection that has one. Raises `NoSeat` if none is free,
+        and `Lost`."""
         taken, end = 0, self.seats + 1
         for seat in self._order():
             if seat >= end:
                 continue
             left = max(0.001, until - time.monotonic())
-            there = connected(address, self.tls, self.server_name, left)
+            there = open_connection(address, self.tls, self.server_name, left)
             reply = self._first_reply(there, seat, left)
             if reply == SEATED:
                 self.address, self.seat = address, seat
@@ -110,12 +112,12 @@ class Connector:
         return f"All {taken} seats at {where} are taken. Wait until one is free, or start cam6 serve with more --users."
 
 
-def seated(connector: Connector) -> Connection:
+def take_seat(connector: Connector) -> Connection:
     """Takes a seat for a connection without a journal. Waits for a seat that was just left."""
     until = time.monotonic() + TO_BE_FREE
     while True:
         try:
-            return connector.tried(TO_SIT)
+            return connector.find_seat(TO_SIT)
         except NoSeat:
             if time.monotonic() > until:
                 raise
@@ -147,7 +149,7 @@ class Session:
         # Whether this call has sent anything, and whether all is over.
         self._is_sent = self._is_closed = False
         try:
-            self._begin()
+            self._take_first_seat()
         except BaseException:
             self.close()
             raise
@@ -167,11 +169,12 @@ class Session:
         """How many commands were asked for since the journal's beginning."""
         return self.journal.number
 
-    def _begin(self) -> None:
-        """Takes the first seat. A new journal is not worth waiting for: a mistyped address is reported at once."""
+    def _take_first_seat(self) -> None:
+        """Takes the first seat, and does the commands that the journal has without a reply. A new journal does not wait
+        for a host, so that a mistyped address is reported at once."""
         if self.journal.number == 0:
             try:
-                self._rebuild(seated(self._connector), self._time_of_deadline())
+                self._rebuild(take_seat(self._connector), self._time_of_deadline())
             except Lost:
                 if self._connector.seat is None:
                     raise
@@ -179,7 +182,7 @@ class Session:
             self._recover(self._time_of_deadline(), Lost("No host was reached."))
         self.recoveries = 0
         waiting = list(self.journal.pending)
-        self.resumed = list(zip(waiting, self._finish()))
+        self.resumed = list(zip(waiting, self._finish_pending()))
 
     def _time_of_deadline(self) -> float:
         """When the next call has to have made progress, by `time.monotonic()`."""
@@ -201,19 +204,20 @@ class Session:
         replies: list[bytes] = []
         left = list(chunks_of(sent))
         try:
-            self._finish()  # What is left of a call that was interrupted.
+            self._finish_pending()  # What is left of a call that was interrupted.
             while left:
                 self.journal.record_commands(left[0])
                 del left[0]
-                replies += self._finish()
+                replies += self._finish_pending()
                 self._checkpoint_if_due()
         except GaveUp as cause:
             undone = cause.undone + [line for chunk in left for line in chunk]
             raise GaveUp(str(cause), undone, replies + cause.replies) from cause.__cause__
         return replies
 
-    def _finish(self) -> list[bytes]:
-        """The replies to all commands without an answer."""
+    def _finish_pending(self) -> list[bytes]:
+        """Sends the commands without a reply, at as many seats as it takes, and returns all their replies. Raises
+        `GaveUp` if there is no progress before the deadline."""
         replies: list[bytes] = []
         until, wait = self._time_of_deadline(), FIRST_WAIT
         self._is_sent = False
@@ -233,7 +237,7 @@ class Session:
                 sentence = self._why_given_up(failure)
                 raise GaveUp(sentence, self.journal.drop_pending(), replies) from failure
             elif failure:
-                wait = paused(wait, until)
+                wait = pause_before_retry(wait, until)
         return replies
 
     def _why_given_up(self, cause: Exception) -> str:
@@ -337,12 +341,14 @@ class Session:
             if left <= 0:
                 raise GaveUp(str(last)) from last
             try:
-                self._rebuild(self._connector.tried(min(left, TO_SIT)), min(until, time.monotonic() + self._patience()))
+                self._rebuild(
+                    self._connector.find_seat(min(left, TO_SIT)), min(until, time.monotonic() + self._patience())
+                )
                 self.recoveries += 1
                 return
             except (Lost, NoSeat) as error:
                 last = error
-            wait = paused(wait, until)
+            wait = pause_before_retry(wait, until)
 
     def _rebuild(self, there: Connection, until: float) -> None:
         """Makes the machine at a seat the one that counts. What was there is somebody's, so it is always loaded."""
@@ -402,7 +408,7 @@ def chunks_of(sent: Sequence[bytes]) -> Iterator[list[bytes]]:
         yield chunk
 
 
-def paused(wait: float, until: float) -> float:
+def pause_before_retry(wait: float, until: float) -> float:
     """Waits about so many seconds, but not beyond `until`. Returns how long to wait the next time."""
     time.sleep(max(0.0, min(wait * random.uniform(0.5, 1.5), until - time.monotonic())))
     return min(LONGEST_WAIT, 2 * wait)

@@ -12,7 +12,7 @@ from .cells import SIDES
 from .channels import Channel, Process
 from .journal import MEMORY, SYNCS, Journal
 from .machine import Machine, side_of
-from .sessions import Address, Connector, Session, seated
+from .sessions import Address, Connector, Session, take_seat
 
 # The most seats that a host has.
 MOST_SEATS = 32
@@ -38,7 +38,7 @@ def local(
     path = os.fspath(program)
     if not isinstance(path, str) or not path:
         raise TypeError(f"program is a path, not {program!r:.60}")
-    return opened(Process([path, "alone", "--side", str(limit)], until))
+    return machine_on(Process([path, "alone", "--side", str(limit)], until))
 
 
 def connect(
@@ -91,7 +91,7 @@ def connect(
     until = None if deadline is None else checked_seconds(deadline, "deadline", False)
     if journal is None:
         connector.is_bound = seat is not None
-        return opened(seated(connector))
+        return machine_on(take_seat(connector))
     path = os.fspath(journal)
     if not isinstance(path, str) or not path:
         raise TypeError(f"journal is a path or {MEMORY!r}, not {journal!r:.60}")
@@ -99,8 +99,8 @@ def connect(
     return Machine(session, session.journal.side, session)
 
 
-def opened(transport: Channel) -> Machine:
-    """The machine on a channel, which is closed if it doesn't answer."""
+def machine_on(transport: Channel) -> Machine:
+    """Returns the machine on a channel. Closes the channel if it doesn't answer."""
     try:
         return Machine(transport, side_of(transport))
     except BaseException:

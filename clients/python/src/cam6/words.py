@@ -158,11 +158,11 @@ class Program:
         """Executes a body on the stack. `written` gets the new bits."""
         for item in body:
             if isinstance(item, Choice):
-                chosen = 0 if _taken(stack, 1)[0] else 1
+                chosen = 0 if _pop(stack, 1)[0] else 1
                 if chosen < len(item.bodies):
                     self._do(item.bodies[chosen], stack, seen, written)
             elif isinstance(item, Case):
-                (index,) = _taken(stack, 1)
+                (index,) = _pop(stack, 1)
                 if index >= len(item.words):
                     raise WordError(f"a case of {len(item.words)} words has no word {index}")
                 self._do_word(item.words[index], stack, seen, written)
@@ -176,18 +176,18 @@ class Program:
         elif _is_number(word):
             stack.append(int(word[-5:]))
         elif word in _TWO:
-            value = _TWO[word](*_taken(stack, 2))
+            value = _TWO[word](*_pop(stack, 2))
             if not 0 <= value <= LARGEST:
                 raise WordError(f"{word} gives {value}, which is not from 0 to {LARGEST}")
             stack.append(value)
         elif word == "0=":
-            stack.append(int(_taken(stack, 1)[0] == 0))
+            stack.append(int(_pop(stack, 1)[0] == 0))
         elif word in _MOVES:
             taken, left = _MOVES[word]
-            values = _taken(stack, taken)
+            values = _pop(stack, taken)
             stack.extend(values[place] for place in left)
         elif word in self.outputs:
-            (value,) = _taken(stack, 1)
+            (value,) = _pop(stack, 1)
             for bit, plane in self.outputs[word]:
                 written[plane] = value >> bit & 1
         else:
@@ -214,8 +214,8 @@ def _past_comments(tokens: List[Token], at: int) -> int:
     return at
 
 
-def _taken(stack: List[int], count: int) -> List[int]:
-    """Takes the top values off the stack, the topmost last."""
+def _pop(stack: List[int], count: int) -> List[int]:
+    """Removes the top values of the stack, and returns them, the topmost last."""
     if len(stack) < count:
         raise WordError(f"a word needs {count} values, and the stack has {len(stack)}")
     values = stack[-count:]
