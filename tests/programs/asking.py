@@ -46,7 +46,7 @@ def entries(names: st.SearchStrategy[str], phases: st.SearchStrategy[int]) -> st
 
 
 def change(draw: st.DrawFn, machine: Command) -> None:
-    """One thing of a saved machine is otherwise."""
+    """Changes one thing of a saved machine, in place."""
     key, number = draw(st.sampled_from(sorted(machine))), draw(NUMBERS)
     items, rows = machine[key], blank_rows(draw(st.sampled_from(SIDES)))
     if key in ("position", "side", "version"):
@@ -94,15 +94,15 @@ class Asking(RuleBasedStateMachine):
         raise NotImplementedError
 
     def do(self, command: Command) -> None:
-        """Has a command done."""
+        """Sends a command to the machine of `machine_at`, and checks what comes back."""
         raise NotImplementedError
 
     def answer(self, line: bytes) -> bytes | None:
         """What has to come back for a line, or None if it isn't sent."""
         return self.oracle.answer(line)
 
-    def say(self, line: bytes) -> None:
-        """A line, whose answer has to be that of the oracle. One that takes exact arithmetic isn't sent."""
+    def send_line(self, line: bytes) -> None:
+        """Sends a line, and compares its reply with the oracle's. A line that takes exact arithmetic isn't sent."""
         try:
             wanted = self.answer(line)
         except Unclear:
@@ -110,13 +110,13 @@ class Asking(RuleBasedStateMachine):
         if wanted is not None:
             self.lines.append(line)
             self.wanted.append(wanted)
-            self.came.append(self.process.reply(line))
+            self.came.append(self.process.ask(line))
             self.compare()
 
-    def tell(self, value: Command) -> None:
-        """A command or an event in its plainest spelling."""
+    def send_value(self, value: Command) -> None:
+        """Sends a command or an event in its plainest spelling, and keeps it as one that may be broken later."""
         self.sent.append(value)
-        self.say(plain(value))
+        self.send_line(plain(value))
 
     def compare(self) -> None:
         """Fails if what came back differs from what is wanted."""
@@ -131,25 +131,26 @@ class Asking(RuleBasedStateMachine):
         self.compare()
 
     def row(self, data: st.DataObject) -> int:
-        """A row, often at a seam."""
+        """Draws the number of a row, often one at a seam."""
         side = self.machine_at().torus.side
         return data.draw(st.sampled_from([0, 1, 15, 16, side - 17, side - 1]) | st.integers(0, side - 1))
 
     def digits(self, data: st.DataObject) -> str:
-        """A row's digits, most of them zeros, or any."""
+        """Draws the digits of a row, most of them zeros, or any."""
         count = self.machine_at().torus.side // 4
         few = data.draw(FEW).rjust(data.draw(st.integers(0, count)), "0").ljust(count, "0")[:count]
         return few if data.draw(st.integers(0, 3)) else data.draw(MANY)[:count]
 
     @rule(name=NAMES, of=rules())
     def keep_a_rule(self, name: str, of: dict[str, str]) -> None:
-        """A rule, which may be none."""
+        """Sends a rule, which may be invalid, and lists the rules."""
         self.do(do("rule", name=name, **of))
         self.do(do("rules"))
 
     @rule(of=rules(("rule", "block", "block")), data=st.data(), way=st.sampled_from(["run", "back"]))
     def keep_a_rule_and_use_it(self, of: dict[str, str], data: st.DataObject, way: str) -> None:
-        """A rule that may be one, a cycle of it, two rows, of which one is at the seam of the torus, a step, and both planes."""
+        """Sends a rule, which may be invalid, and a cycle of it. Sets two rows, one of them at the seam of the torus.
+        Does a step, and shows both planes."""
         first, side = FIRST_PLANE[of["half"]], self.machine_at().torus.side
         some = data.draw(st.lists(entries(st.just("-"), PHASES), min_size=1, max_size=2))
         cycle = [entry | {of["half"].lower(): "R"} for entry in some] * data.draw(st.sampled_from([1, 8]))
@@ -162,7 +163,7 @@ class Asking(RuleBasedStateMachine):
 
     @rule(data=st.data(), count=st.sampled_from([1, 2, 3, 16]))
     def cycle(self, data: st.DataObject, count: int) -> None:
-        """A cycle of rules that are there."""
+        """Sets a cycle of rules that are there."""
         kept = self.machine_at().rules.items()
         names = {half: ["-", *(name for name, rule in kept if rule.key.half == half)] for half in "AB"}
         a, b = (st.sampled_from(names[half]) for half in "AB")
@@ -171,7 +172,8 @@ class Asking(RuleBasedStateMachine):
 
     @rule(data=st.data(), wrong=st.sampled_from(["half", "half", "name", "phase", "count"]))
     def refused_cycle(self, data: st.DataObject, wrong: str) -> None:
-        """A cycle with rules of the other half, with names or phases of all kinds, or with any number of entries."""
+        """Sends a cycle that may be refused: with rules of the other half, with names or phases of all kinds, or with
+        any number of entries."""
         names = ["-", *self.machine_at().rules, *(["X", data.draw(NO_NAMES)] if wrong == "name" else [])]
         entry = entries(st.sampled_from(names), NUMBERS if wrong == "phase" else PHASES)
         count = data.draw(st.sampled_from([0, 1, 2, 16, 17, 40] if wrong == "count" else [1, 2]))
@@ -189,19 +191,19 @@ class Asking(RuleBasedStateMachine):
 
     @rule(plane=PLANES, data=st.data(), mask=st.sampled_from([1, 2, 65534, 65535]) | st.integers(0, 65535))
     def look(self, plane: int, data: st.DataObject, mask: int) -> None:
-        """A row, its colours, and how many cells are of some states."""
+        """Shows a row and its colours, and counts the cells of some states."""
         row = self.row(data)
         for command in (do("row", plane=plane, row=row), do("colours", row=row), do("count", mask=mask)):
             self.do(command)
 
     @rule(word=st.sampled_from(["plane", "plane", "clear"]), plane=PLANES)
     def plane(self, word: str, plane: int) -> None:
-        """A plane, which is shown or cleared."""
+        """Shows a plane, or clears it."""
         self.do(do(word, plane=plane))
 
     @rule(side=st.sampled_from(SIDES))
     def side(self, side: int) -> None:
-        """A blank torus, whose machine begins its cycle again: a step tells the position."""
+        """Makes a blank torus of this side. Does a step, whose reply has the position."""
         self.do(do("side", side=side))
         self.do(do("run", n=1))
 
@@ -212,13 +214,13 @@ class Asking(RuleBasedStateMachine):
 
     @rule(name=NAMES | NO_NAMES)
     def drop(self, name: str) -> None:
-        """A rule that is dropped, and those that are left."""
+        """Drops a rule, and lists those that are left."""
         self.do(do("drop", name=name))
         self.do(do("rules"))
 
     @rule(target=saved, way=st.sampled_from(["run", "back"]), n=st.integers(0, 3))
     def save(self, way: str, n: int) -> Command:
-        """The machine after some steps, saved."""
+        """Does some steps, and saves the machine. Returns it, so that it can be loaded later."""
         self.do(do(way, n=n))
         self.do(do("save"))
         machine: Command = self.machine_at().do(do("save"))["machine"]
@@ -226,7 +228,7 @@ class Asking(RuleBasedStateMachine):
 
     @rule(target=saved, of=rules(("block",)), side=st.sampled_from(SIDES[:2]))
     def save_of_another_user(self, of: dict[str, str], side: int) -> Command:
-        """A machine that another user saved."""
+        """Returns a machine that another user saved, so that it can be loaded later."""
         other, picture = Machine(side), do("set", plane=1, row=3, bits="8" * (side // 4))
         *_, reply = map(other.reply, (do("rule", name="O", **of), picture, do("save")))
         machine: Command = reply["machine"]
@@ -234,18 +236,18 @@ class Asking(RuleBasedStateMachine):
 
     @rule(machine=saved)
     def load(self, machine: Command) -> None:
-        """A machine that was saved, and its position."""
+        """Loads a saved machine, and asks for its position."""
         self.do(do("load", machine=machine))
         self.do(do("run", n=0))
 
     @rule(machine=saved, data=st.data())
     def load_another(self, machine: Command, data: st.DataObject) -> None:
-        """A machine with a few things otherwise."""
+        """Loads a saved machine with a few things changed."""
         self.do(do("load", machine=data.draw(changed(machine))))
 
     @rule(number=NUMBERS | st.integers(0, 2**64 - 1), data=st.data())
     def refused(self, number: int, data: st.DataObject) -> None:
-        """A command with a number or a name of any kind, which is refused or not."""
+        """Sends a command with a number or a name of any kind, which may be refused."""
         digits, other = self.digits(data), "0" * data.draw(st.sampled_from([32, 64, 128]))
         numbered = [("clear", "plane"), ("plane", "plane"), ("run", "n"), ("back", "n"), ("count", "mask")]
         commands = [do(word, **{key: number}) for word, key in [*numbered, ("colours", "row"), ("side", "side")]]
@@ -257,7 +259,8 @@ class Asking(RuleBasedStateMachine):
 
     @rule(word=st.sampled_from(list(REVERSIBLE)), count=st.sampled_from([3, 15, 16, 17]), last=st.integers(0, 2))
     def many_rules(self, word: str, count: int, last: int) -> None:
-        """Rules, as many as there can be, or one more. Then one of three has a cycle, and others are dropped from the first on."""
+        """Defines rules, up to one more than there can be, and sets a cycle of one of the first three. Then drops all,
+        from the first on."""
         entry = {"a": "-", "b": "-", "grid": "EVEN", "phase": 0} | {REVERSIBLE[word][0].lower(): f"n{last}"}
         self.do(FREE)
         for number in range(count):
@@ -270,11 +273,11 @@ class Asking(RuleBasedStateMachine):
 
     @rule(line=st.sampled_from([b"", b" ", b"{", b"{}", b"\xff", b'{"do":"fly"}', b'{"do":"run","n":-1}', b"[" * 200]))
     def no_command(self, line: bytes) -> None:
-        """A line that is no command."""
-        self.say(line)
+        """Sends a line that is no command."""
+        self.send_line(line)
 
     @rule(random=st.randoms(use_true_random=False), data=st.data())
     def broken(self, random: Random, data: st.DataObject) -> None:
-        """A line like one that was sent, but broken."""
+        """Sends a line like one that was sent before, but broken."""
         for line in Breaker(random).line(data.draw(st.sampled_from(self.sent))).split(b"\n"):
-            self.say(line)
+            self.send_line(line)

@@ -57,16 +57,16 @@ class Speller:
         self.random, self.escapes = random, random.choice([0, 0, 0.02, 0.5])
         self.spaces = SPACES if random.random() < 0.4 else [b""]
 
-    def spelled(self, value: Any) -> bytes:
-        """A value in some spelling, between blanks or not. The keys of an object are in some order."""
+    def spell(self, value: Any) -> bytes:
+        """Spells a value as JSON, in any way: with blanks or not, and the keys of an object in some order."""
         if isinstance(value, Raw):
             text = bytes(value)
         elif isinstance(value, dict):
             keys = self.random.sample(list(value), len(value)) if value and self.random.random() < 0.6 else list(value)
-            text = self.joined(self.text(key) + self.space() + b":" + self.spelled(value[key]) for key in keys)
+            text = self.join(self.text(key) + self.space() + b":" + self.spell(value[key]) for key in keys)
             text = b"{" + text + b"}"
         elif isinstance(value, list):
-            text = b"[" + self.joined(map(self.spelled, value)) + b"]"
+            text = b"[" + self.join(map(self.spell, value)) + b"]"
         else:
             text = self.text(value) if isinstance(value, str) else plain(value)
         return self.space() + text + self.space()
@@ -75,7 +75,7 @@ class Speller:
         """Blanks, or nothing."""
         return self.random.choice(self.spaces)
 
-    def joined(self, parts: Iterable[bytes]) -> bytes:
+    def join(self, parts: Iterable[bytes]) -> bytes:
         """Joins parts by commas, with blanks between them."""
         return b",".join(parts) or self.space()
 
@@ -97,96 +97,103 @@ class Breaker:
 
     def __init__(self, random: Random) -> None:
         self.random = random
-        self.saying = [self.number, self.number, self.other_value, self.left_out, self.key_more, self.key_renamed]
-        self.saying += [self.nested, self.other_text]
-        self.writing = [self.spelled] * 4 + [self.twice, self.in_a_string]
+        self.saying = [
+            self.change_number,
+            self.change_number,
+            self.change_value,
+            self.leave_out,
+            self.add_key,
+            self.rename_key,
+        ]
+        self.saying += [self.nest, self.change_text]
+        self.writing = [self.spell] * 4 + [self.repeat_key, self.change_string]
 
     def line(self, value: dict[str, Any]) -> bytes:
-        """The bytes of a line that says this value, or of one like it; an LF among them makes two lines."""
+        """The bytes of a line that says this value, or of a broken one like it. An LF among them makes two lines."""
         choice, pick = self.random.random(), self.random.choice
         if choice < 0.35:
             value = deepcopy(value)
             pick(self.saying)(value, *pick(list(places(value))))
-            return self.spelled(value)
+            return self.spell(value)
         if choice < 0.7:
             spell: Callable[[dict[str, Any]], bytes] = pick(self.writing)
             return spell(value)
-        return self.other_bytes(self.spelled(value) if self.random.random() < 0.5 else plain(value))
+        return self.change_bytes(self.spell(value) if self.random.random() < 0.5 else plain(value))
 
-    def spelled(self, value: Any) -> bytes:
-        """A line in any spelling. One that is to load a machine mostly begins so that it may be long."""
+    def spell(self, value: Any) -> bytes:
+        """Spells a value in any way. A line that is to load a machine mostly begins so that it may be long."""
         speller = Speller(self.random)
         is_load = isinstance(value, dict) and list(value) == ["do", "machine"] and value["do"] == "load"
         if is_load and self.random.random() < 0.8:
-            return LOAD_HEAD + b'"machine":' + speller.spelled(value["machine"]) + b"}"
-        return speller.spelled(value)
+            return LOAD_HEAD + b'"machine":' + speller.spell(value["machine"]) + b"}"
+        return speller.spell(value)
 
     def any_value(self) -> Raw:
-        """A number or another value, or what is none."""
+        """A number or another value of JSON, or something that is no JSON."""
         return Raw(self.random.choice(self.random.choice([NUMBERS, NUMBERS, VALUES])).encode())
 
-    def other_value(self, _: Any, inner: Any, key: Any) -> None:
+    def change_value(self, _: Any, inner: Any, key: Any) -> None:
         """Puts another value under a key or an index."""
         inner[key] = self.any_value()
 
-    def number(self, value: Any, inner: Any, key: Any) -> None:
-        """Another number in the place of one, if there is any."""
+    def change_number(self, value: Any, inner: Any, key: Any) -> None:
+        """Replaces a number by another one, if there is any."""
         numbers = [(inner, key) for inner, key in places(value) if isinstance(inner[key], int)]
         inner, key = self.random.choice(numbers or [(inner, key)])
         inner[key] = Raw(self.random.choice(NUMBERS).encode())
 
-    def left_out(self, _: Any, inner: Any, key: Any) -> None:
-        """Removes a key or an index."""
+    def leave_out(self, _: Any, inner: Any, key: Any) -> None:
+        """Removes a member of an object, or an item of a list."""
         del inner[key]
 
-    def key_more(self, _: Any, inner: Any, key: Any) -> None:
-        """A key or an item more."""
+    def add_key(self, _: Any, inner: Any, key: Any) -> None:
+        """Adds a member to an object, or an item to a list."""
         if isinstance(inner, dict):
             inner[self.random.choice(KEYS)] = self.random.choice([0, "x", self.any_value()])
         else:
             inner.append(self.random.choice([0, 15, *inner]))
 
-    def key_renamed(self, _: Any, inner: Any, key: Any) -> None:
-        """A key has another name, or a list is turned round."""
+    def rename_key(self, _: Any, inner: Any, key: Any) -> None:
+        """Renames a key of an object, or reverses a list."""
         if isinstance(inner, dict):
             inner[self.random.choice([*KEYS, key.upper(), key + " "])] = inner.pop(key)
         else:
             inner.reverse()
 
-    def nested(self, _: Any, inner: Any, key: Any) -> None:
-        """Something as deep as can be, or deeper."""
+    def nest(self, _: Any, inner: Any, key: Any) -> None:
+        """Replaces a value by one that is nested as deep as can be, or deeper."""
         depth = self.random.choice([1, *range(122, 129), *range(122, 129), 5000])
         first, last = self.random.choice([(b"[", b"]"), (b'{"a":', b"}")])
         inside = self.random.choice([b"1", b"{}", b"[]"])
         inner[key] = Raw(first * depth + inside + last * (depth - (self.random.random() < 0.1)))
 
-    def other_text(self, value: Any, inner: Any, key: Any) -> None:
-        """A text with a letter more or less."""
+    def change_text(self, value: Any, inner: Any, key: Any) -> None:
+        """Replaces, adds or removes a letter of a text."""
         inner, key = self.random.choice([(inner, key) for inner, key in places(value) if isinstance(inner[key], str)])
         i = self.random.randrange(len(inner[key]) + 1)
         letter = self.random.choice([*"AB-0f()>;: \t\n\x00\x0b", "é", "😀", " ; ", " DUP ", ""])
         inner[key] = inner[key][:i] + letter + inner[key][i + self.random.randrange(2) :]
 
-    def twice(self, value: dict[str, Any]) -> bytes:
-        """A key of the line stands in it twice, or an object has all of its keys twice."""
-        line = self.spelled(value).strip()
+    def repeat_key(self, value: dict[str, Any]) -> bytes:
+        """Spells a line in which one key stands twice, or each key of the object does."""
+        line = self.spell(value).strip()
         if self.random.random() < 0.2:
-            return line[:-1] + b"," + self.spelled(value).lstrip()[1:]
+            return line[:-1] + b"," + self.spell(value).lstrip()[1:]
         key = self.random.choice(list(value))
         other = self.random.choice([self.any_value(), value[key], self.random.choice(["run", "evict", "x"])])
-        member = Speller(self.random).text(key) + b":" + self.spelled(other)
+        member = Speller(self.random).text(key) + b":" + self.spell(other)
         return self.random.choice([b"{" + member + b"," + line[1:], line[:-1] + b"," + member + b"}"])
 
-    def in_a_string(self, value: dict[str, Any]) -> bytes:
-        """Something stands in a string that belongs there or doesn't."""
-        line = self.spelled(value)
+    def change_string(self, value: dict[str, Any]) -> bytes:
+        """Spells a line, and inserts a piece after one of its quotes. The piece may be right there or not."""
+        line = self.spell(value)
         quotes = [i for i, byte in enumerate(line) if byte == ord('"')]
         i = self.random.choice(quotes if self.random.random() < 0.5 else quotes[:20] + quotes[-60:])
         return line[: i + 1] + self.random.choice(PIECES) + line[i + 1 :]
 
-    def other_bytes(self, line: bytes) -> bytes:
-        """A line with other bytes at a place, which is as often near an end of a long one. Or it is cut, doubled, made longer,
-        in another code, with something before or after it, or empty."""
+    def change_bytes(self, line: bytes) -> bytes:
+        """Changes bytes of a line at a place, which is as often near an end of a long one. Or cuts or doubles the line,
+        makes it longer, puts it into another code, adds something before or after it, or empties it."""
         random, i = self.random, self.random.randrange(len(line))
         if len(line) > LINE_LIMIT and random.random() < 0.5:
             i = random.choice([random.randrange(100), len(line) - 1 - random.randrange(400)])
@@ -198,11 +205,12 @@ class Breaker:
             [line + between + line for between in (b"", b" ", b",", b"\r", b"\n")],
             [line + more] * 2 + [more + line],
         ]
-        ways += [[line.decode(errors="replace").encode(code)] * 3 + [b"", b" ", b"\r", b"\x00"], self.padded(line)]
+        ways += [[line.decode(errors="replace").encode(code)] * 3 + [b"", b" ", b"\r", b"\x00"], self.pad(line)]
         return random.choice(random.choice(ways))
 
-    def padded(self, line: bytes) -> list[bytes]:
-        """A line with space up to the largest length, or about it; seldom up to the largest one of a load."""
+    def pad(self, line: bytes) -> list[bytes]:
+        """A line with space at its end, at its front or within: up to the largest length, or about it; seldom up to the
+        largest one of a load."""
         is_longest = line.startswith(LOAD_HEAD) and self.random.random() < 0.2
         limit, at = (LOAD_LIMIT, len(LOAD_HEAD)) if is_longest else (LINE_LIMIT, 1)
         length = limit + self.random.choice([-1, 0, 0, 1, 1, 2, LINE_LIMIT, 2 * LINE_LIMIT])

@@ -60,7 +60,7 @@ class Schedules(Asking):
 
     def event(self, word: str, **named: Any) -> None:
         """Does an event at both hosts, and compares."""
-        self.tell({"event": word} | named)
+        self.send_value({"event": word} | named)
 
     def do(self, command: Command) -> None:
         """The user asks for a command, and collects the reply if it is there at once."""
@@ -128,10 +128,10 @@ class Schedules(Asking):
         """Brings the users to rest who haven't many bands left, and compares their machines."""
         with self.process:
             for event in Scheduler(Random(0), self.host, {}).bring_to_rest(MOST_BANDS):
-                self.tell(event)
+                self.send_value(event)
             for user in self.host.with_status("resting")[:6]:
                 for event in one_event("ask", user=user, command=do("save")) + one_event("collect", user=user):
-                    self.tell(event)
+                    self.send_value(event)
             self.end(b"")
 
 

@@ -38,7 +38,7 @@ class Sessions(Asking):
 
     def do(self, command: Command) -> None:
         """Does a command at both machines, and compares."""
-        self.tell(command)
+        self.send_value(command)
 
     def answer(self, line: bytes) -> bytes | None:
         """The reply to a line, or None if its steps have too many cells."""

@@ -36,7 +36,7 @@ def outputs_of(half: str) -> list[str]:
 def values(
     seen: list[str], ones: st.SearchStrategy[Tokens] = ONES, twos: st.SearchStrategy[Tokens] = TWOS
 ) -> st.SearchStrategy[Tokens]:
-    """Words that leave a value, if they don't stop."""
+    """Draws words that leave a value, if they don't stop."""
     leaves = (st.sampled_from(seen) | NUMBERS).map(lambda token: [token])
     sums = st.lists(st.sampled_from(seen), min_size=1, max_size=4)
 
@@ -52,14 +52,15 @@ def values(
             three.map(lambda p: [*p[0], "IF", *p[1], "ELSE", *p[2], "THEN"]),
             st.tuples(two, ones).map(lambda p: [*p[0][0], *p[0][1], "IF", *p[1], "THEN"]),
             st.tuples(inner, ones).map(lambda p: [*p[0], "DUP", "1", "AND", "{", *(p[1][:1] or ["0="]), "0=", "}"]),
-            st.tuples(sums, st.lists(leaves, min_size=1, max_size=6)).map(lambda parts: chosen(*parts)),
+            st.tuples(sums, st.lists(leaves, min_size=1, max_size=6)).map(lambda parts: case_by_sum(*parts)),
         )
 
     return st.recursive(leaves, larger, max_leaves=5)
 
 
-def chosen(seen: Tokens, words: list[Tokens]) -> Tokens:
-    """One of some words, by how many of some neighbours are set. There may be one too few."""
+def case_by_sum(seen: Tokens, words: list[Tokens]) -> Tokens:
+    """Words of a case that picks one of the words by the sum of what is seen. There may be too few words for that
+    sum."""
     tokens = [seen[0], *(token for name in seen[1:] for token in (name, "+"))]
     return [*tokens, "{", *(word for [word] in words), "}"]
 
@@ -137,7 +138,7 @@ def broken_tokens(draw: st.DrawFn, half: str, hood: str, minor: str) -> Tokens:
 
 
 def doubled(name: str, first: str, times: int) -> str:
-    """Definitions. Each has the one before it twice."""
+    """Definitions, of which each has the name of the one before it twice."""
     text = f": {name}0 {first} ;"
     for k in range(1, times + 1):
         text += f" : {name}{k} {name}{k - 1} {name}{k - 1} ;"

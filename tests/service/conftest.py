@@ -74,7 +74,7 @@ def fleet(request: pytest.FixtureRequest, cam6: str, tmp_path_factory: pytest.Te
         ground = Ground()
         if not is_plain:
             stack.callback(ground.close)
-            ground.lay()
+            ground.make_nodes()
         made = Fleet(ground, cam6, tmp_path_factory.mktemp("fleet"), users=32, boards=2)
         stack.callback(made.kill)
         made.start()

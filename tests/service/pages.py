@@ -69,8 +69,8 @@ class Answer:
 
 
 def answer_to(port: int, *lines: str, ends: bool = False) -> Answer:
-    """What is answered to the lines of a request and an empty one, until the server ends. If `ends`, the client shuts its
-    side after the lines."""
+    """Sends the lines of a request and an empty one, and reads the answer until the server ends. If `ends`, shuts its
+    own side after the lines."""
     whole, request = b"", "\r\n".join(lines if ends else (*lines, "", "")).replace("PORT", str(port))
     with socket.create_connection(("127.0.0.1", port), timeout=20) as tcp:
         with suppress(BrokenPipeError, ConnectionResetError):
@@ -84,7 +84,7 @@ def answer_to(port: int, *lines: str, ends: bool = False) -> Answer:
 
 
 def get(port: int, path: str, fields: Mapping[str, str] | None = None) -> Answer:
-    """What a well-behaved GET is answered, with these fields."""
+    """Sends a well-formed GET with these fields, and returns the answer."""
     all_fields = {"Host": "127.0.0.1:PORT"} | dict(fields or {})
     return answer_to(port, f"GET {path} HTTP/1.1", *(f"{name}: {value}" for name, value in all_fields.items()))
 
@@ -172,6 +172,7 @@ class Socket(Peer):
             self.send(data)
 
     def ask(self, line: str) -> str | None:
+        """Sends a text, and returns the next one of the server."""
         self.send(line)
         return self.read()
 
@@ -205,6 +206,7 @@ class Received(StreamRequestHandler):
     host ends the connection, and `bytes` is answered by a line that isn't UTF-8."""
 
     def handle(self) -> None:
+        """Keeps the bytes that come, and answers each line."""
         self.data, self.has_ended = b"", threading.Event()
         cast(Recorder, self.server).connections.append(self)
         with suppress(OSError):
@@ -228,5 +230,6 @@ class Recorder(ThreadingTCPServer):
         threading.Thread(target=self.serve_forever, args=(0.05,), daemon=True).start()
 
     def server_close(self) -> None:
+        """Ends the thread of the server, and closes its socket."""
         self.shutdown()
         super().server_close()

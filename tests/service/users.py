@@ -68,7 +68,8 @@ def seated(kind: Callable[[int, int], P], port: int, user: int, patience: float 
 
 
 def closed(peers: Sequence[Peer], within: float) -> int:
-    """How many of these connections the server closes within so many seconds, or has closed. What comes over them is lost."""
+    """Counts which of these connections the server closes within so many seconds, or has closed. Drops what comes over
+    them."""
     end = time.monotonic() + within
     with DefaultSelector() as selector:
         for peer in peers:
@@ -92,7 +93,7 @@ def fill(peer: Peer) -> None:
 
 @contextmanager
 def connected(kind: Callable[[int], P], port: int, count: int) -> Iterator[list[P]]:
-    """So many connections of a kind that send nothing, and are closed in the end."""
+    """Opens so many connections of a kind that send nothing, and closes them after the context."""
     peers = [kind(port) for _ in range(count)]
     try:
         yield peers
@@ -103,9 +104,9 @@ def connected(kind: Callable[[int], P], port: int, count: int) -> Iterator[list[
 
 @contextmanager
 def steady(peer: Peer, session: Session, pause: float = 0) -> Iterator[Callable[[], int]]:
-    """A user goes on meanwhile, one line after another. They have sent the whole session before, and send it once more
-    afterwards. It fails in the end if one of their replies was not that of a private machine. Yields a function that
-    tells how often they have sent it."""
+    """Has a user go on within the context, one line after another. They have sent the whole session before, and send it
+    once more afterwards. It fails in the end if one of their replies was not that of a private machine. Yields a
+    function that tells how often they have sent it."""
     enough, rounds = Event(), 0
 
     def go_on() -> None:

@@ -104,7 +104,7 @@ class Asker:
         return do(self.random.choice(["run", "run", "back"]), n=self.random.choice(self.steps or [0, *some, *some]))
 
     def ask_shown(self) -> Command:
-        """What shows a machine, and other colours."""
+        """A command that shows a part of the machine, or sets other colours."""
         looks = [do("row", plane=self.random.randrange(4), row=self.row()), do("colours", row=self.row()), do("rules")]
         looks += [do("count", mask=self.random.choice([1, 2, 65534, self.random.randrange(65536)]))]
         looks += [do("map", colours=[self.random.randrange(16) for _ in range(16)])]

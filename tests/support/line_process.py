@@ -31,16 +31,16 @@ class LineProcess:
         """The seconds that are left for what is being sent, and for what comes back for it."""
         return max(0.0, self.end - time.monotonic())
 
-    def say(self, data: bytes) -> None:
+    def send(self, data: bytes) -> None:
         """Sends bytes. If the program takes no more of them, what comes back shows it."""
         self.end = time.monotonic() + PATIENCE
         with suppress(BrokenPipeError):
             while data and select.select([], [self.input], [], self.left())[1]:
                 data = data[os.write(self.input, data) :]
 
-    def reply(self, line: bytes) -> bytes:
-        """The next line that comes back once this one is sent."""
-        self.say(line + b"\n")
+    def ask(self, line: bytes) -> bytes:
+        """Sends a line, and returns the next line that comes back, or `nothing` if none comes in time."""
+        self.send(line + b"\n")
         while b"\n" not in self.unread and select.select([self.output], [], [], self.left())[0]:
             more = os.read(self.output, 1 << 16)
             self.unread += more
@@ -50,17 +50,18 @@ class LineProcess:
         return reply if end else b"nothing"
 
     def answer(self, line: bytes) -> bytes:
-        """What comes back for a line."""
+        """Sends a line, and returns what comes back. Keeps both. Sends nothing more after a line that got `nothing`."""
         is_silent = self.answers[-1:] == [b"nothing"]
         self.lines.append(line)
-        self.answers.append(b"nothing" if is_silent else self.reply(line))
+        self.answers.append(b"nothing" if is_silent else self.ask(line))
         return self.answers[-1]
 
     def rest(self, data: bytes = b"") -> bytes:
-        """What comes back for the last bytes. It is a line more if the program doesn't end well after them."""
+        """Sends the last bytes, and returns all that comes back until the program ends. It is a line more if the
+        program doesn't end well."""
         if self.answers[-1:] == [b"nothing"]:
             return b"nothing\n"
-        self.say(data)
+        self.send(data)
         try:
             output, errors = self.process.communicate(timeout=self.left())
         except subprocess.TimeoutExpired:
@@ -77,5 +78,5 @@ class LineProcess:
 
 
 def how_it_ended(status: int, errors: bytes) -> bytes:
-    """A line more if a program didn't end well."""
+    """Nothing if a program ended well, else a line that says how it ended."""
     return b"" if (status, errors) == (0, b"") else b"the program: status %d, %r\n" % (status, errors)

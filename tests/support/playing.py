@@ -8,7 +8,7 @@ import pytest
 from _pytest.mark import ParameterSet
 from oracle.examples import Example, limit_of, sizes_of
 from support.programs import TOP
-from support.sessions import both, kept
+from support.sessions import show_both, write_session
 
 
 def examples(*folders: str) -> list[ParameterSet]:
@@ -31,7 +31,7 @@ def first_other(answers: bytes, wanted: bytes) -> int:
 def both_lines(came: bytes, wanted: bytes, number: int) -> str:
     """A line of two texts, as it is shown."""
     found = (text.split(b"\n")[:-1][number - 1 : number] for text in (came, wanted))
-    return both(*(lines[0] if lines else ... for lines in found))
+    return show_both(*(lines[0] if lines else ... for lines in found))
 
 
 def arguments_of(way: str) -> list[str]:
@@ -53,7 +53,7 @@ def assert_answers(example: Example, answers: Iterable[bytes], sent: Sequence[by
                 return
             data, how = sent[place] if sent else part.bytes_sent(), part.way
             if how.startswith(("session", "events")):
-                how = f"to be piped into ./cam6 {' '.join(arguments_of(how))}, is {kept(data)}"
+                how = f"to be piped into ./cam6 {' '.join(arguments_of(how))}, is {write_session(data)}"
             text = data.decode(errors="backslashreplace")
             shown = f"{both_lines(came, part.wanted, line)}\nwhat was sent, {how}:\n{text}"
             raise AssertionError(f"line {before + line} of what comes back\n{shown}")

@@ -61,7 +61,7 @@ def assert_refused(done: Ran, status: int, message: str) -> None:
 
 
 def private(cam6: str, lines: Iterable[str], side: int = 512) -> list[str]:
-    """The replies of a private machine, `cam6 alone`, to these lines."""
+    """Runs `cam6 alone` on these lines, and returns its replies."""
     done = ran([cam6, "alone", "--side", str(side)], "".join(f"{line}\n" for line in lines).encode())
     assert done.status == 0, done
     return done.output.decode().splitlines()
@@ -75,7 +75,7 @@ def free_port() -> int:
 
 
 def of_process(pid: int, name: str) -> int:
-    """A number that the system knows of a process, as VmRSS (in kB) or Threads."""
+    """A number that the system knows of a process: VmRSS (in kB) or Threads, for example."""
     with open(f"/proc/{pid}/status", encoding="utf-8") as lines:
         return next((int(line.split()[1]) for line in lines if line.startswith(f"{name}:")), 0)
 
@@ -148,8 +148,8 @@ class Listener:
         self.ended()
 
     def ended(self, patience: float = PATIENCE) -> Ran | None:
-        """How the program ends by itself, or None if it doesn't within so many seconds. The first line of its errors,
-        which says where it listens, is left out."""
+        """Waits until the program ends by itself. Returns how it ended, or None if it doesn't within so many seconds.
+        The first line of its errors, which says where it listens, is left out."""
         try:
             status = self.process.wait(patience)
         except subprocess.TimeoutExpired:

@@ -26,7 +26,7 @@ def short(line: object, first: int = 0) -> str:
     return f"{'.. ' * (first > 0)}{text[first : first + SHOWN]}{' ..' * (len(text) > first + SHOWN)}"
 
 
-def both(came: object, wanted: object) -> str:
+def show_both(came: object, wanted: object) -> str:
     """What came and what is wanted, as far as they are shown: around the first character that differs."""
     pairs = enumerate(zip_longest(repr(came), repr(wanted)))
     place = next((place for place, (one, other) in pairs if one != other), 0)
@@ -34,8 +34,9 @@ def both(came: object, wanted: object) -> str:
     return f"  is     {short(came, first)}\n  wanted {short(wanted, first)}"
 
 
-def kept(sent: bytes) -> Path:
-    """A file that has what was sent: one for each test, in which the shortest session found comes last."""
+def write_session(sent: bytes) -> Path:
+    """Writes what was sent to a file, and returns its path. Each test has one file, in which the shortest session found
+    comes last."""
     test = zlib.crc32(os.environ.get("PYTEST_CURRENT_TEST", "").encode())
     path = Path(tempfile.gettempdir(), f"cam6-session-{os.getpid()}-{test:08x}.lines")
     path.write_bytes(sent)
@@ -53,10 +54,10 @@ def assert_replies(
         return
     line, one, other = (lines[place] if place < len(lines) else ... for lines in (sent, came, wanted))
     session = sent[: place + 1]
-    file = kept(b"".join((line if isinstance(line, bytes) else line.encode()) + b"\n" for line in session))
+    file = write_session(b"".join((line if isinstance(line, bytes) else line.encode()) + b"\n" for line in session))
     # Bytes that are no UTF-8 are shown as `\xNN`.
     texts = (line if isinstance(line, str) else line.decode(errors="backslashreplace") for line in session)
     raise AssertionError(
-        f"reply {place + 1} of {len(wanted)} to {short(line)}\n{both(one, other)}\n"
+        f"reply {place + 1} of {len(wanted)} to {short(line)}\n{show_both(one, other)}\n"
         f"the session, to be piped into {command}, is {file}:\n" + "\n".join(texts)
     )

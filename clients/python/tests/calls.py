@@ -58,7 +58,7 @@ class Calls(Sessions):
         self.asked: list[bytes] = []
         self.way = f"./cam6 alone --side {limit}"
 
-    def say(self, line: bytes) -> None:
+    def send_line(self, line: bytes) -> None:
         """Does a line by its own call, unless it asks for too many steps. A call may ask for more steps than a line."""
         try:
             value = read_line(line, is_command)

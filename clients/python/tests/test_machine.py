@@ -52,7 +52,7 @@ def test_each_command_by_its_call(cam6: str) -> None:
         compact(do="clear", plane=0),
         compact(do="drop", name="B"),
     ):
-        calls.say(line)
+        calls.send_line(line)
     calls.teardown()
     assert calls.words == set(COMMANDS)
 

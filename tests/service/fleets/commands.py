@@ -34,7 +34,7 @@ class Commands:
             return self.rng.choice([SAVE, self.saved or SAVE, *self.rng.sample(REFUSED, 3), *PLANES])
         return json.dumps(self.asker.command(), separators=self.rng.choice([(",", ":"), (", ", ": ")])).encode()
 
-    def heard(self, replies: list[bytes]) -> None:
+    def keep_saved(self, replies: list[bytes]) -> None:
         """Keeps the last machine that the replies have saved, as a load line."""
         for reply in replies:
             if reply.startswith(SAVED):

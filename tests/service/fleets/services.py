@@ -66,8 +66,9 @@ class Ground:
 
     has_cables = False
 
-    def lay(self) -> None:
-        """Makes the nodes, and joins each of them to the switch. That takes root, and `ip`. Says so if it can't be done."""
+    def make_nodes(self) -> None:
+        """Makes the nodes as network namespaces, and joins each to the switch. That takes root, and `ip`. Prints it if
+        it can't be done."""
         switch = OWN + "switch"
         try:
             for node in ("switch", *NODES):
@@ -91,12 +92,12 @@ class Ground:
         return f"10.77.0.{11 + NODES.index(node)}" if self.has_cables else "127.0.0.1"
 
     def port(self, usual: int) -> int:
-        """The port of a program. A machine of its own has all ports, so the usual one is free there."""
+        """A port for a program: `usual` if a node has ports of its own, else any free one."""
         return usual if self.has_cables else free_port()
 
     @contextmanager
     def pulled(self, node: str) -> Iterator[None]:
-        """A node's cable is pulled meanwhile."""
+        """Pulls a node's cable within the context."""
         link = ["-n", OWN + "switch", "link", "set", node]
         ip(*link, "nomaster")
         try:
@@ -142,14 +143,14 @@ class Service:
         self.processes.append(self.process)
 
     def kill(self) -> None:
-        """Ends it by SIGKILL. It can't do anything about that."""
+        """Ends the program by SIGKILL, which it can't handle."""
         for process in self.processes:
             process.kill()
             process.wait()
 
     @contextmanager
     def stopped(self) -> Iterator[None]:
-        """It is stopped in its place meanwhile. What is sent to it waits."""
+        """Stops the program by SIGSTOP within the context. What is sent to it waits."""
         self.process.send_signal(SIGSTOP)
         try:
             yield
@@ -184,6 +185,7 @@ class Proxy(Service):
         super().__init__(fleet.ground, node, words, fleet.folder / f"{name}.log", values)
 
     def start(self, *more: str) -> None:
+        """Starts the proxy, and waits until it answers."""
         super().start(*more)
         wait_until(lambda: self.is_there() or self.process.poll() is not None, START)
         assert self.is_there(), f"{' '.join(self.words)} is not there; {self.log} says why"
@@ -195,7 +197,7 @@ class Proxy(Service):
         return False
 
     def ask(self, command: str) -> str:
-        """The answer to a command."""
+        """Sends a command to the proxy's admin socket, and returns the answer."""
         with socket.socket(socket.AF_UNIX) as admin:
             admin.settimeout(5)
             admin.connect(self.admin)
@@ -203,7 +205,7 @@ class Proxy(Service):
             return admin.makefile(encoding="utf-8").read()
 
     def stats(self, server: str, backend: str = "fleet") -> dict[str, str]:
-        """What it counts of a server."""
+        """The proxy's counts for a server by their names. They are empty if it has no such server."""
         rows = csv.DictReader(self.ask("show stat").lstrip("# ").splitlines())
         return next((row for row in rows if (row["pxname"], row["svname"]) == (backend, server)), {})
 
@@ -212,7 +214,8 @@ class Proxy(Service):
         return self.stats(server, backend).get("status", "").partition(" ")[0]
 
     def is_up(self, server: str, backend: str = "fleet") -> bool:
-        """Whether it has found a server up. It takes each for one that is up before it has looked."""
+        """Whether the proxy has looked at a server, and found it up. Before that it takes each server for one that is
+        up."""
         return self.state(server, backend) == "UP" and "OK" in self.stats(server, backend)["check_status"]
 
 

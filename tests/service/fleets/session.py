@@ -93,7 +93,7 @@ class Player:
         return asked[kept:]
 
     def ask(self, machine: cam6.Machine, session: Session, sent: list[bytes]) -> list[bytes]:
-        """The replies to lines. Both are written down."""
+        """Sends lines, and returns their replies. Writes both to the record."""
         self.write(ask=texts(sent))
         seats, again, begun = session.recoveries, session.replayed, time.monotonic()
         replies = machine._query(sent)
@@ -113,7 +113,7 @@ class Player:
             left = [] if is_new else self.resume(session, before)
             sent = left or commands.some()
             while sent:
-                commands.heard(self.ask(machine, session, sent))
+                commands.keep_saved(self.ask(machine, session, sent))
                 commands.side = session.journal.side
                 time.sleep(pauses.uniform(0, 2 * self.pause))
                 sent = [] if Path(self.over).exists() else commands.some()
