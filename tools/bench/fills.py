@@ -26,7 +26,8 @@ def size_of(unit: str) -> int:
 
 
 def rule(start: str, unit: str) -> Callable[[int], str]:
-    """The texts of a rule: each number gives another one."""
+    """Returns a function that makes texts of a rule: the words of the start, and the unit again and again. Each number
+    gives another text."""
     size = size_of(unit)
 
     def text_of(number: int) -> str:
@@ -37,27 +38,27 @@ def rule(start: str, unit: str) -> Callable[[int], str]:
 
 
 def over(values: int) -> str:
-    """Words that put so many values on the stack, and one more."""
+    """Words that push so many values, and one more."""
     return " ".join(["1"] * (values + 1))
 
 
 def ups(lines: Iterable[str], values: int = 1) -> str:
-    """So many values more where a line shows 1, line by line."""
+    """Words that push so many values for each line that is 1."""
     return " ".join(f"{line} IF {' '.join(['0'] * values)} THEN" for line in lines)
 
 
 def downs(lines: Iterable[str], values: int = 1) -> str:
-    """So many values less where a line shows 1, line by line."""
+    """Words that drop so many values for each line that is 1."""
     return " ".join(f"{line} IF {' '.join(['DROP'] * values)} THEN" for line in lines)
 
 
 def at_once(values: int = 1) -> str:
-    """For each line values more and then less, one line after another."""
+    """Words that push values if a line is 1, and drop them at once, one line after another."""
     return " ".join(f"{ups([line], values)} {downs([line], values)}" for line in LINES)
 
 
 def in_groups(*groups: Iterable[str]) -> str:
-    """Values more by each line of a group, and less again, group by group."""
+    """Words that push a value for each line of a group that is 1, and then drop them, group by group."""
     return " ".join(f"{ups(group)} {downs(group)}" for group in [list(group) for group in groups])
 
 
@@ -86,7 +87,8 @@ RULES = {
 
 
 def random_rule(source: random.Random) -> tuple[str, Callable[[int], str]]:
-    """Values more by some lines and less by the same ones, in some order, with other words between."""
+    """A random rule and its name. Some lines push values, and the same lines drop them in some order, with other words
+    between."""
     count = source.randint(1, 12)
     chosen = [(line, source.choice([1, 1, 1, 2])) for line in source.sample(LINES, count)]
     depth = source.randint(0, MOST_VALUES - sum(values for _, values in chosen))
@@ -104,7 +106,7 @@ def random_rule(source: random.Random) -> tuple[str, Callable[[int], str]]:
 
 
 def least_times(program: str, rules: dict[str, Callable[[int], str]], times: int) -> dict[str, float]:
-    """The least milliseconds of each rule. A rule that is refused is left out."""
+    """Defines each rule so many times. Returns the least milliseconds of each, without rules that are refused."""
     found = {}
     with subprocess.Popen([program, "alone"], stdin=subprocess.PIPE, stdout=subprocess.PIPE) as alone:
         assert alone.stdin and alone.stdout
@@ -127,6 +129,7 @@ def least_times(program: str, rules: dict[str, Callable[[int], str]], times: int
 
 
 def main() -> None:
+    """Prints the least times of the rules above, or of random ones."""
     parser = argparse.ArgumentParser(
         prog="fills.py", description=__doc__, formatter_class=argparse.RawDescriptionHelpFormatter
     )

@@ -37,7 +37,7 @@ WAYS: dict[str, Connect] = {"without TLS": Fleet.user, "by TLS": Fleet.tls_user}
 
 @contextmanager
 def host(cam6: str, folder: Path, boards: int, side: int = 256) -> Iterator[tuple[Service, int]]:
-    """A host of 32 users, with its port."""
+    """Runs a host of 32 users within the context. Yields it, and its port."""
     port = Ground().port(7001)
     words = [cam6, "serve", "--port", str(port), "--users", "32", "--boards", str(boards), "--side", str(side)]
     service = Service(Ground(), "one", words, folder / "host.log")
@@ -45,7 +45,7 @@ def host(cam6: str, folder: Path, boards: int, side: int = 256) -> Iterator[tupl
     try:
         for _ in range(200):
             try:
-                seated(port, 1).close()
+                take_seat(port, 1).close()
                 break
             except ConnectionRefusedError:
                 time.sleep(0.02)
@@ -54,8 +54,8 @@ def host(cam6: str, folder: Path, boards: int, side: int = 256) -> Iterator[tupl
         service.kill()
 
 
-def seated(port: int, seat: int) -> Peer:
-    """A connection that has a seat."""
+def take_seat(port: int, seat: int) -> Peer:
+    """Connects to a seat, as soon as it is free."""
     while True:
         one = Peer(socket.create_connection(("127.0.0.1", port)))
         if one.ask(f'{{"seat":{seat}}}') != TAKEN:
@@ -63,9 +63,9 @@ def seated(port: int, seat: int) -> Peer:
         one.close()
 
 
-def prepared(port: int, seat: int, rule: str, side: int) -> Peer:
-    """A user with a rule in a cycle, and some cells."""
-    one = seated(port, seat)
+def prepare_user(port: int, seat: int, rule: str, side: int) -> Peer:
+    """Connects to a seat, and sets a rule, a cycle of it and some cells."""
+    one = take_seat(port, seat)
     hood, minor, text = RULES[rule]
     entries = ",".join('{"a":"R","b":"-","grid":"%s","phase":0}' % grid for grid in ("EVEN", "ODD"))
     lines = ['{"do":"side","side":%d}' % side]
@@ -81,8 +81,9 @@ def prepared(port: int, seat: int, rule: str, side: int) -> Peer:
     return one
 
 
-def asked_for(ones: list[Peer], lines: list[str], seconds: float) -> int:
-    """How often all of these users, at once, have all of these lines answered."""
+def count_rounds(ones: list[Peer], lines: list[str], seconds: float) -> int:
+    """Has all users send all lines at once, again and again for so many seconds. Returns how often a user had them all
+    answered, over all users."""
     counts, end = [0] * len(ones), time.monotonic() + seconds
     sent = "".join(f"{line}\n" for line in lines)
 
@@ -102,11 +103,12 @@ def asked_for(ones: list[Peer], lines: list[str], seconds: float) -> int:
 
 
 def memory(cam6: str, folder: Path) -> None:
-    """Memory of a host, at first, with 32 users who have a rule and did steps each way, and when all load a machine at once."""
+    """Prints the memory of a host: at first, with 32 users who have a rule and did steps each way, and when all load a
+    machine at once."""
     for side in (128, 256, 512):
         with host(cam6, folder, 2, 512) as (service, port), ExitStack() as open_:
             first = service.of_process("VmRSS")
-            ones = [open_.enter_context(prepared(port, seat, "Critters", side)) for seat in range(1, 33)]
+            ones = [open_.enter_context(prepare_user(port, seat, "Critters", side)) for seat in range(1, 33)]
             for one in ones:
                 one.ask('{"do":"run","n":2}')
                 one.ask('{"do":"back","n":2}')
@@ -114,49 +116,50 @@ def memory(cam6: str, folder: Path) -> None:
             then = service.of_process("VmRSS")
             assert saved is not None
             machine = saved.removeprefix('{"machine":').removesuffix(',"ok":"save"}')
-            asked_for(ones, [f'{{"do":"load","machine":{machine}}}'], 1)
+            count_rounds(ones, [f'{{"do":"load","machine":{machine}}}'], 1)
             print(f"memory: side {side}: {first / 1024:.1f} MB at first, {then / 1024:.1f} MB with 32 users", end="")
             print(f": {(then - first) / 32:.0f} KB a user; {service.of_process('Threads')} threads", end="")
             print(f"; at most {service.of_process('VmHWM') / 1024:.1f} MB")
 
 
 def steps(cam6: str, folder: Path) -> None:
-    """Steps of users who run without a pause, by the number of boards."""
+    """Prints how many steps a second are done for users who run without a pause, by the number of boards."""
     for rule in RULES:
         for boards in (1, 2, 4):
             with host(cam6, folder, boards) as (service, port), ExitStack() as open_:
-                ones = [open_.enter_context(prepared(port, seat, rule, 256)) for seat in range(1, 9)]
+                ones = [open_.enter_context(prepare_user(port, seat, rule, 256)) for seat in range(1, 9)]
                 before = service.seconds()
-                count = 500 * asked_for(ones, ['{"do":"run","n":500}'], SECONDS)
+                count = 500 * count_rounds(ones, ['{"do":"run","n":500}'], SECONDS)
                 spent = service.seconds() - before
                 print(f"steps: {rule}, side 256, {boards} boards, 8 users: {count / SECONDS:,.0f} a second", end="")
                 print(f" by {spent / SECONDS:.2f} cores: {count / spent:,.0f} a core")
 
 
 def frames(cam6: str, folder: Path) -> None:
-    """What a page asks for: a step and a plane, by users who draw without a pause."""
+    """Prints how many frames a second users get who draw without a pause. A frame is a step and a plane, as a page asks
+    for them."""
     for side in (128, 256, 512):
         with host(cam6, folder, 2, 512) as (service, port), ExitStack() as open_:
-            ones = [open_.enter_context(prepared(port, seat, "Critters", side)) for seat in range(1, 5)]
+            ones = [open_.enter_context(prepare_user(port, seat, "Critters", side)) for seat in range(1, 5)]
             before = service.seconds()
-            count = asked_for(ones, ['{"do":"run","n":1}', '{"do":"plane","plane":0}'], SECONDS)
+            count = count_rounds(ones, ['{"do":"run","n":1}', '{"do":"plane","plane":0}'], SECONDS)
             spent = service.seconds() - before
             print(f"frames: side {side}: {count / SECONDS:,.0f} a second by {spent / SECONDS:.2f} cores", end="")
             print(f": {1e3 * spent / count:.3f} ms of a core each")
 
 
 def rest(cam6: str, folder: Path) -> None:
-    """What users cost who do nothing."""
+    """Prints the processor time of a host whose users do nothing."""
     with host(cam6, folder, 2) as (service, port), ExitStack() as open_:
         for seat in range(1, 33):
-            open_.enter_context(prepared(port, seat, "Critters", 256))
+            open_.enter_context(prepare_user(port, seat, "Critters", 256))
         before = service.seconds()
         time.sleep(SECONDS)
         print(f"rest: 32 silent users: {(service.seconds() - before) / SECONDS:.4f} cores")
 
 
 def front(cam6: str, folder: Path) -> None:
-    """What a front and an edge proxy add: to a round trip, to a connection, and in memory."""
+    """Prints what a front and an edge proxy add to a round trip and to a connection, and what memory they take."""
     fleet = Fleet(Ground(), cam6, folder, users=32, boards=2)
     try:
         fleet.start()
@@ -168,7 +171,7 @@ def front(cam6: str, folder: Path) -> None:
 
 
 def spent_by(fleet: Fleet, play: Callable[[], int]) -> tuple[int, float, float]:
-    """What a play counts, and the processor time of the front and of the edge proxies meanwhile."""
+    """Calls `play`. Returns what it counts, and the processor time of the front and of the edge proxies meanwhile."""
     edges = fleet.edges.values()
     before = fleet.front.seconds(), sum(edge.seconds() for edge in edges)
     count = play()
@@ -176,7 +179,7 @@ def spent_by(fleet: Fleet, play: Callable[[], int]) -> tuple[int, float, float]:
 
 
 def round_trips(fleet: Fleet) -> None:
-    """A line and its reply: at a host, by the front without TLS, and by TLS."""
+    """Prints the time of a line and its reply: at a host, by the front without TLS, and by TLS."""
     ways: dict[str, Connect] = {
         "at a host": lambda fleet: fleet.at_host("one"),
         "by the front": Fleet.user,
@@ -200,7 +203,7 @@ def round_trips(fleet: Fleet) -> None:
 
 
 def connections(fleet: Fleet) -> None:
-    """New connections, one after another, each with a seat that isn't there."""
+    """Prints how many connections a second can be made, each with a seat that isn't there."""
     for what, connect in WAYS.items():
 
         def play(connect: Connect = connect) -> int:
@@ -234,6 +237,7 @@ PARTS = {"memory": memory, "steps": steps, "frames": frames, "rest": rest, "fron
 
 
 def main() -> None:
+    """Measures the part that the arguments name, or all parts."""
     parser = ArgumentParser(prog="fleet.py", description=__doc__, formatter_class=RawDescriptionHelpFormatter)
     parser.add_argument("cam6", metavar="CAM6")
     parser.add_argument("part", metavar="PART", nargs="?", choices=list(PARTS))

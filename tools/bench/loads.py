@@ -61,7 +61,8 @@ def loads() -> dict[str, bytes]:
 
 
 def milliseconds(alone: subprocess.Popen[bytes], line: bytes, times: int) -> str:
-    """How long it takes to answer a line, of so many times."""
+    """Sends a line so many times. Returns the least and the median milliseconds until its reply, as two cells of a
+    table."""
     assert alone.stdin and alone.stdout
     taken = []
     for _ in range(times):
@@ -76,6 +77,7 @@ def milliseconds(alone: subprocess.Popen[bytes], line: bytes, times: int) -> str
 
 
 def main() -> None:
+    """Prints the times of the loads, and of a save after each."""
     layout = argparse.RawDescriptionHelpFormatter
     parser = argparse.ArgumentParser(prog="loads.py", description=__doc__, formatter_class=layout)
     parser.add_argument("program")

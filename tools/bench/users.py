@@ -41,6 +41,7 @@ class Host:
                 self.ask(user - 1, line)
 
     def ask(self, index: int, line: str) -> None:
+        """Sends a line of a user. Ends the script if the line is refused."""
         peer, file = self.peers[index]
         peer.sendall(line.encode() + b"\n")
         reply = file.readline()
@@ -57,12 +58,13 @@ class Host:
         return time.monotonic() - began
 
     def spent(self) -> float:
-        """Seconds of processor time."""
+        """The seconds of processor time that the host has used."""
         with open("/proc/%d/stat" % self.process.pid) as stat:
             fields = stat.read().rsplit(")", 1)[1].split()
         return (int(fields[11]) + int(fields[12])) / os.sysconf("SC_CLK_TCK")
 
     def end(self) -> None:
+        """Kills the host."""
         self.process.kill()
         self.process.communicate()
 
@@ -79,6 +81,7 @@ def cells() -> Iterator[str]:
 
 
 def main() -> None:
+    """Prints the times of one user and of four, and the load of a host at rest."""
     parser = argparse.ArgumentParser(description=__doc__)
     parser.add_argument("program", metavar="PROGRAM")
     parser.add_argument(

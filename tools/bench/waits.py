@@ -39,8 +39,8 @@ def cycle_line(entries: list[tuple[str, str]]) -> bytes:
     return f'{{"do":"cycle","entries":[{listed}]}}\n'.encode()
 
 
-def parity_lines() -> list[bytes]:
-    """The lines that make a machine run parity."""
+def parity_commands() -> list[bytes]:
+    """The lines that define the parity rule, and set a cycle of it. They do no step."""
     return [rule_line("P", "A", "N/VONN", "&/CENTERS", PARITY), cycle_line([("P", "-")])]
 
 
@@ -76,7 +76,7 @@ def uneven_text(number: int) -> str:
 
 
 def lines_of(text_of: Callable[[int], str]) -> list[bytes]:
-    """Sixteen such rules, all of half A, and a cycle of them."""
+    """The lines that define sixteen rules of such texts, all of half A, and set a cycle of them."""
     lines = [rule_line(f"R{number}", "A", "N/MARG-HV", "&/PHASES", text_of(number)) for number in range(1, 17)]
     return [*lines, cycle_line([(f"R{number}", "-") for number in range(1, 17)])]
 
@@ -172,37 +172,40 @@ def waits_for(asked: Alone | User, seconds: float) -> list[float]:
     return sorted(found)
 
 
-def tell(what: str, found: list[float]) -> float:
+def print_row(what: str, found: list[float]) -> float:
     """Prints a row of the table: median, 99th percentile and longest. Returns the median."""
     median, late = found[len(found) // 2], found[min(len(found) - 1, len(found) * 99 // 100)]
     print(f"| {what} | {median:.0f} | {late:.0f} | {found[-1]:.0f} |", flush=True)
     return median
 
 
-def lone(program: str, count: int) -> None:
-    """A user alone on a host of four users and two boards, beside a private machine."""
+def measure_lone(program: str, count: int) -> None:
+    """Prints the waits of a user alone on a host of four users and two boards, beside those of a private machine."""
     machine, host = Alone(program), Host(program, "--users", "4", "--boards", "2")
     user = host.user(1)
-    prepare(machine, parity_lines())
-    prepare(user, parity_lines())
+    prepare(machine, parity_commands())
+    prepare(user, parity_commands())
     # Both alternate, so that a bad minute slows both.
     of_machine, of_user = [], []
     for _ in range(10):
         of_machine += waits(machine, count // 10, PAUSE)
         of_user += waits(user, count // 10, PAUSE)
-    alone, on_host = tell("a machine alone", sorted(of_machine)), tell("a lone user of a host", sorted(of_user))
+    alone, on_host = print_row("a machine alone", sorted(of_machine)), print_row(
+        "a lone user of a host", sorted(of_user)
+    )
     print(f"| more on the host | {on_host - alone:.0f} | | |")
     machine.end()
     host.end()
 
 
-def bothered(program: str, count: int) -> None:
-    """A user beside another one who has sixteen tables filled for each step, on a cache that holds one."""
+def measure_bothered(program: str, count: int) -> None:
+    """Prints the waits of a user beside another one who has sixteen tables filled for each step, on a cache that holds
+    one."""
     host = Host(program, "--users", "2", "--boards", "2", "--cache", "1")
     victim, other = host.user(1), host.user(2)
-    prepare(victim, parity_lines())
+    prepare(victim, parity_commands())
     prepare(other, lines_of(largest_text))
-    tell("a step that fills sixteen tables of the largest rules", waits(other, 20, 0))
+    print_row("a step that fills sixteen tables of the largest rules", waits(other, 20, 0))
     is_over = threading.Event()
 
     def bother() -> None:
@@ -211,8 +214,8 @@ def bothered(program: str, count: int) -> None:
 
     bothering = threading.Thread(target=bother)
     bothering.start()
-    tell("beside a user who asks for such steps without end, at once", waits(victim, count, 0))
-    tell("beside such a user, with a pause before each", waits(victim, count, PAUSE))
+    print_row("beside a user who asks for such steps without end, at once", waits(victim, count, 0))
+    print_row("beside such a user, with a pause before each", waits(victim, count, PAUSE))
     is_over.set()
     bothering.join()
     host.end()
@@ -241,27 +244,28 @@ class Hostile:
 
 
 def measure_beside_hostile(program: str, text_of: Callable[[int], str], hostile: int, *words: str) -> None:
-    """A user beside so many hostile ones."""
+    """Prints the waits of a user beside so many hostile ones."""
     host = Host(program, *words)
     user = host.user(1)
-    prepare(user, parity_lines())
+    prepare(user, parity_commands())
     others = [Hostile(host, number, lines_of(text_of)) for number in range(2, 2 + hostile)]
     for other in others:
         other.thread.start()
     what = f"beside {hostile} hostile, {(text_of.__doc__ or '').split(':')[0].lower()}"
-    tell(f"{what}: the first {FIRST} seconds", waits_for(user, FIRST))
+    print_row(f"{what}: the first {FIRST} seconds", waits_for(user, FIRST))
     while any(len(other.steps) < 2 for other in others):
         time.sleep(PAUSE)
-    tell("    when each of them has done two steps", waits_for(user, SECONDS))
+    print_row("    when each of them has done two steps", waits_for(user, SECONDS))
     for other in others:
         other.is_over.set()
     for other in others:
         other.thread.join()
-    tell("    a step of theirs", sorted(step for other in others for step in other.steps))
+    print_row("    a step of theirs", sorted(step for other in others for step in other.steps))
     host.end()
 
 
 def main() -> None:
+    """Prints the table of waits."""
     parser = argparse.ArgumentParser(
         prog="waits.py", description=__doc__, formatter_class=argparse.RawDescriptionHelpFormatter
     )
@@ -269,8 +273,8 @@ def main() -> None:
     parser.add_argument("count", nargs="?", type=int, default=1000)
     asked = parser.parse_args()
     print("| a command of one step, in microseconds | median | 99th percentile | longest |\n|---|---|---|---|")
-    lone(asked.program, asked.count)
-    bothered(asked.program, max(asked.count // 20, 1))
+    measure_lone(asked.program, asked.count)
+    measure_bothered(asked.program, max(asked.count // 20, 1))
     for text_of in [choosing_text, uneven_text]:
         measure_beside_hostile(asked.program, text_of, 1)
         measure_beside_hostile(asked.program, text_of, 8, "--users", "9", "--boards", "8")
