@@ -45,7 +45,7 @@ export const all = (parent, selector) =>
   [...parent.querySelectorAll(selector)].map(found => checked(found, HTMLElement, selector));
 
 /**
- * What draws on a canvas.
+ * The context that draws on a canvas.
  * @param {HTMLCanvasElement} canvas
  * @param {CanvasRenderingContext2DSettings} [settings]
  */
@@ -121,7 +121,7 @@ export function joinClicks(actions) {
 }
 
 /**
- * A list of choices.
+ * Makes a menu of choices.
  * @param {Iterable<string|[string, string]>} choices each a value, or a value and what is shown
  * @param {string} value the one that is chosen
  * @param {Properties<'select'>} [properties]

@@ -138,7 +138,7 @@ export function meetingOf(answer, known) {
  * Names as a list in a sentence: `a, b and c`.
  * @param {string[]} names
  */
-const listed = names => names.length < 2 ? names.join('') : `${names.slice(0, -1).join(', ')} and ${names.at(-1)}`;
+const listText = names => names.length < 2 ? names.join('') : `${names.slice(0, -1).join(', ')} and ${names.at(-1)}`;
 
 /**
  * The sentence that says at which address a rule fails, by the names that are 1 there.
@@ -151,7 +151,7 @@ function whereItStops(address, rule) {
   }
   const names = bitsOf(address, rule.hood, rule.minor);
   return names.length === 0 ? ' It happens if all names are 0.'
-    : ` It happens if ${listed(names)} ${names.length === 1 ? 'is' : 'are'} 1 and all other names are 0.`;
+    : ` It happens if ${listText(names)} ${names.length === 1 ? 'is' : 'are'} 1 and all other names are 0.`;
 }
 
 /**

@@ -67,10 +67,10 @@ const number32 = n => [n >>> 24, n >>> 16 & 255, n >>> 8 & 255, n & 255];
 const number16 = n => [n >>> 8 & 255, n & 255];
 
 /**
- * The parts as one array of bytes.
+ * Joins parts to one array of bytes.
  * @param {Bytes[]} parts
  */
-function joined(parts) {
+function join(parts) {
   const bytes = new Uint8Array(parts.reduce((sum, part) => sum + part.length, 0));
   let at = 0;
   for (const part of parts) {
@@ -86,8 +86,8 @@ function joined(parts) {
  * @param {Bytes} data
  */
 function chunk(type, data) {
-  const body = joined([[...type].map(letter => letter.charCodeAt(0)), data]);
-  return joined([number32(data.length), body, number32(crcOf(body))]);
+  const body = join([[...type].map(letter => letter.charCodeAt(0)), data]);
+  return join([number32(data.length), body, number32(crcOf(body))]);
 }
 
 /**
@@ -104,7 +104,7 @@ export function stored(bytes) {
     const size = block.length;
     parts.push([isLast ? 1 : 0, size & 255, size >> 8, ~size & 255, ~size >> 8 & 255], block);
   }
-  return joined([...parts, number32(adlerOf(bytes))]);
+  return join([...parts, number32(adlerOf(bytes))]);
 }
 
 /**
@@ -122,10 +122,11 @@ export async function deflated(bytes, Stream = STREAM) {
 }
 
 /**
- * The rows of a box of pixels, two pixels a byte, each row after its filter 0; each pixel `scale` wide and high.
+ * The rows of a box of pixels as a PNG file has them before they are packed: two pixels a byte, and a filter 0 before each row.
+ * Each pixel is `scale` wide and high.
  * @type {(pixels: Uint8Array, width: number, box: Box, scale: number) => Uint8Array}
  */
-function packed(pixels, width, { x, y, wide, high }, scale) {
+function filteredRows(pixels, width, { x, y, wide, high }, scale) {
   const stride = 1 + Math.ceil(wide * scale / 2);
   const bytes = new Uint8Array(stride * high * scale);
   for (let row = 0; row < high; row++) {
@@ -161,8 +162,8 @@ function heading(width, height) {
  * @returns {Promise<Uint8Array>}
  */
 export async function picture(pixels, width, height, { scale = 1, Stream = STREAM } = {}) {
-  const data = await deflated(packed(pixels, width, { x: 0, y: 0, wide: width, high: height }, scale), Stream);
-  return joined([...heading(width * scale, height * scale), chunk('IDAT', data), chunk('IEND', [])]);
+  const data = await deflated(filteredRows(pixels, width, { x: 0, y: 0, wide: width, high: height }, scale), Stream);
+  return join([...heading(width * scale, height * scale), chunk('IDAT', data), chunk('IEND', [])]);
 }
 
 /**
@@ -221,7 +222,7 @@ export class Film {
       : changedBox(this.#last, pixels, width, height);
     this.#last = pixels.slice();
     const delay = pause === 0 ? [1, this.rate] : [Math.round(100 / this.rate) + pause, 100];
-    this.#frames.push({ box, delay, data: deflated(packed(pixels, width, box, scale), this.Stream) });
+    this.#frames.push({ box, delay, data: deflated(filteredRows(pixels, width, box, scale), this.Stream) });
   }
 
   /**
@@ -237,8 +238,8 @@ export class Film {
       const sizes = [box.wide, box.high, box.x, box.y].flatMap(n => number32(n * scale));
       chunks.push(chunk('fcTL', [...number32(sequence++), ...sizes, ...delay.flatMap(number16), 0, 0]));
       const bytes = await data;
-      chunks.push(i === 0 ? chunk('IDAT', bytes) : chunk('fdAT', joined([number32(sequence++), bytes])));
+      chunks.push(i === 0 ? chunk('IDAT', bytes) : chunk('fdAT', join([number32(sequence++), bytes])));
     }
-    return joined([...chunks, chunk('IEND', [])]);
+    return join([...chunks, chunk('IEND', [])]);
   }
 }

@@ -3,7 +3,7 @@
 import { back, commandOf, isSteps, lineOf, run } from './lines.js';
 import { JournalStorage } from './storage.js';
 
-export { kept, nameOfTab } from './storage.js';
+export { journalsOf, nameOfTab } from './storage.js';
 
 const SLOT_LETTERS = 4096;
 const MOST_STEPS = 65535;

@@ -50,7 +50,7 @@ export function joinKeys(actions) {
       return;
     }
     if (event.ctrlKey || event.metaKey) {
-      withControl(event, actions);
+      handleControlKey(event, actions);
       return;
     }
     const pressed = event.key.length === 1 ? event.key.toLowerCase() : event.key;
@@ -66,11 +66,11 @@ export function joinKeys(actions) {
 }
 
 /**
- * Keys with Ctrl. Copies and pastes come as events of the clipboard.
+ * Does what a key with Ctrl stands for. Copies and pastes come as events of the clipboard.
  * @param {KeyboardEvent} event
  * @param {Actions} actions
  */
-function withControl(event, actions) {
+function handleControlKey(event, actions) {
   const key = event.key.toLowerCase();
   const act = key === 'z' ? actions.undo : key === 'a' ? actions.selectAll : null;
   if (act) {
@@ -80,7 +80,7 @@ function withControl(event, actions) {
 }
 
 /**
- * After a click on a button by a pointer the torus has the keys again, so that the space bar runs and pauses.
+ * Gives the torus the keys again after a click on a button by a pointer, so that the space bar runs and pauses.
  * @param {HTMLElement} torus
  */
 export function giveKeysBack(torus) {

@@ -129,7 +129,7 @@ export const count = mask => ({ do: 'count', mask });
 export const load = machine => ({ do: 'load', machine });
 
 /**
- * A load line of a reply to `save`, byte for byte.
+ * The line that loads the machine in a reply to `save`, byte for byte.
  * @param {string} reply
  * @returns {string}
  */
@@ -138,7 +138,7 @@ export function loadLineOf(reply) {
 }
 
 /**
- * Loads a blank machine without rules.
+ * The command that loads a blank machine without rules.
  * @param {number} side
  */
 export function blank(side) {

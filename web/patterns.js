@@ -214,7 +214,7 @@ function runsOf(row, isTwoState) {
     while (next < end && row[next] === row[x]) {
       next++;
     }
-    runs.push(counted(next - x, letter(row[x])));
+    runs.push(lettersOfRun(next - x, letter(row[x])));
     x = next;
   }
   return runs;
@@ -224,7 +224,7 @@ function runsOf(row, isTwoState) {
  * A run of equal letters: its length, if above 1, and the letter.
  * @type {(times: number, letter: string) => string}
  */
-const counted = (times, letter) => times === 1 ? letter : `${times}${letter}`;
+const lettersOfRun = (times, letter) => times === 1 ? letter : `${times}${letter}`;
 
 /**
  * Writes run-length text.
@@ -241,7 +241,7 @@ export function write(cells, width, height, rule = '') {
   for (let y = 0; y < height; y++) {
     const runs = runsOf(cells.subarray(y * width, (y + 1) * width), isTwoState);
     if (runs.length > 0) {
-      parts.push(...ends > 0 ? [counted(ends, '$')] : [], ...runs);
+      parts.push(...ends > 0 ? [lettersOfRun(ends, '$')] : [], ...runs);
       ends = 0;
     }
     ends++;

@@ -150,7 +150,7 @@ export function random(from, to, density, seed) {
 }
 
 /**
- * A piece of a torus, over its seams.
+ * Copies a piece of a torus, over its seams.
  * @param {import('./planes.js').Planes} planes
  * @param {Box} where
  * @returns {Piece}
@@ -179,10 +179,10 @@ export function place(planes, { width, cells }, [x, y], isClear = false) {
 }
 
 /**
- * A piece of this size, with the state that the function gives for each cell.
+ * Makes a piece of this size, with the state that the function gives for each cell.
  * @type {(width: number, height: number, stateAt: (x: number, y: number) => number) => Piece}
  */
-function made(width, height, stateAt) {
+function makePiece(width, height, stateAt) {
   const cells = Uint8Array.from({ length: width * height }, (_, i) => stateAt(i % width, Math.floor(i / width)));
   return { width, height, cells };
 }
@@ -193,7 +193,7 @@ function made(width, height, stateAt) {
  * @returns {Piece}
  */
 export function turned({ width, height, cells }) {
-  return made(height, width, (x, y) => cells[(height - 1 - x) * width + y]);
+  return makePiece(height, width, (x, y) => cells[(height - 1 - x) * width + y]);
 }
 
 /**
@@ -202,5 +202,5 @@ export function turned({ width, height, cells }) {
  * @returns {Piece}
  */
 export function mirrored({ width, height, cells }) {
-  return made(width, height, (x, y) => cells[y * width + width - 1 - x]);
+  return makePiece(width, height, (x, y) => cells[y * width + width - 1 - x]);
 }

@@ -77,7 +77,7 @@ function forget(storage, name) {
  * @param {Store} storage
  * @returns {{name: string, when: number}[]} when each was last kept, in milliseconds since 1970
  */
-export function kept(storage) {
+export function journalsOf(storage) {
   const heads = keysOf(storage, 'cam6/').filter(key => key.split('/').length === 2);
   const found = heads.map(key => ({ name: key.slice(5), when: headAt(storage, key)?.when ?? 0 }));
   return found.sort((one, other) => other.when - one.when);
@@ -136,7 +136,7 @@ export class JournalStorage {
     let content = null;
     this.#tried(storage => { content = this.#content(storage); });
     this.#tried(storage => storage.setItem(this.#key('owner'), this.#owner));
-    this.#tried(storage => kept(storage).slice(MOST_KEPT).forEach(({ name }) => forget(storage, name)));
+    this.#tried(storage => journalsOf(storage).slice(MOST_KEPT).forEach(({ name }) => forget(storage, name)));
     return content;
   }
 
@@ -194,7 +194,7 @@ export class JournalStorage {
   replace(content) {
     while (!this.#tried(storage => this.#replaced(storage, content))) {
       const hasRoom = this.#tried(storage => {
-        const oldest = kept(storage).filter(({ name }) => name !== this.name).pop();
+        const oldest = journalsOf(storage).filter(({ name }) => name !== this.name).pop();
         return oldest !== undefined && forget(storage, oldest.name);
       });
       if (!hasRoom) {

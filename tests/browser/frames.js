@@ -11,6 +11,7 @@ await pause(500);
 const watch = new MutationObserver(() => frames++);
 watch.observe(torus, { attributes: true, attributeFilter: ['data-count'] });
 const [first, begun] = [Number(torus.dataset.count), performance.now()];
+/** The milliseconds since the count of frames began. */
 const passed = () => performance.now() - begun;
 while (passed() < least || frames < wanted && passed() < most) {
   await pause(20);

@@ -2,7 +2,7 @@
 
 import assert from 'node:assert/strict';
 import { test } from 'node:test';
-import { Journal, kept, nameOfTab } from '../journal.js';
+import { Journal, journalsOf, nameOfTab } from '../journal.js';
 import { back, commandOf, lineOf, run, set } from '../lines.js';
 import { FakeStorage } from './fake_storage.mjs';
 
@@ -237,12 +237,12 @@ test('journals of other pages make room, the oldest first', () => {
   const journal = journalIn(storage, 'page', { now: () => 3 });
   journal.checkpoint(saved('2'.repeat(1200)));
   assert.equal(journal.isKept, true);
-  assert.deepEqual(kept(storage).map(({ name }) => name), ['page', 'new']);
+  assert.deepEqual(journalsOf(storage).map(({ name }) => name), ['page', 'new']);
   for (let i = 0; i < 12; i++) {
     const many = journalIn(storage, `tab${i}`, { now: () => 10 + i });
     many.checkpoint(saved(i));
   }
-  assert.ok(kept(storage).length <= 9);
+  assert.ok(journalsOf(storage).length <= 9);
 });
 
 test('a journal that another page forgets just now counts as the oldest', () => {
@@ -255,7 +255,7 @@ test('a journal that another page forgets just now counts as the oldest', () => 
   const storage = new Shared();
   storage.setItem('cam6/gone', 'anything');
   journalIn(storage).checkpoint(saved(1));
-  assert.deepEqual(kept(storage), [{ name: 'page', when: 5 }, { name: 'gone', when: 0 }]);
+  assert.deepEqual(journalsOf(storage), [{ name: 'page', when: 5 }, { name: 'gone', when: 0 }]);
 });
 
 test('two pages with one name: each has its own machine, the one that was there first under a new name', () => {
