@@ -51,7 +51,7 @@ def pytest_addoption(parser: pytest.Parser) -> None:
 
 
 def program(name: str) -> Callable[..., str]:
-    """The fixture of a program."""
+    """Makes the fixture of a program, which is its path."""
 
     @pytest.fixture(scope="session", name=name)
     def path_of(request: pytest.FixtureRequest) -> str:

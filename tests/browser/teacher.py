@@ -92,8 +92,9 @@ class Teacher:
         """The number of steps since the first state."""
         return int(self.torus("count"))
 
-    def settled(self) -> int:
-        """The count, as soon as it stays: for a second, and for so many looks, since steps take longer on a busy computer."""
+    def wait_for_count(self) -> int:
+        """Waits until the count stays, and returns it. It stays for a second, and for so many looks, since steps take
+        longer on a busy computer."""
         looks: list[tuple[float, int]] = []
 
         def stays() -> bool:
@@ -108,7 +109,7 @@ class Teacher:
     def assert_count(self, count: int) -> None:
         """Fails if the count doesn't come to be this one, and stay."""
         wait_until(lambda: self.count() == count)
-        assert self.settled() == count
+        assert self.wait_for_count() == count
 
     def assert_shows(self, lines: list[str]) -> None:
         """Fails if the canvas doesn't come to show what a private machine has after these lines."""
@@ -219,10 +220,10 @@ class Teacher:
     def pause(self) -> int:
         """Pauses while time runs. Returns the count at which it stays."""
         self.click("#run[aria-pressed=true]")
-        return self.settled()
+        return self.wait_for_count()
 
-    def kept(self, selector: str) -> Path:
-        """The file that the page gives to keep after an element is clicked."""
+    def download(self, selector: str) -> Path:
+        """Clicks an element, and returns the file that the page then gives to keep."""
         before = {*self.browser.downloads.iterdir()}
         self.click(selector)
 

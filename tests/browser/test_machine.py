@@ -90,7 +90,7 @@ def test_time_runs_and_pauses(own: Teacher, press: Callable[[Teacher], None], di
     press(own)
     assert wait_until(lambda: own.count() / steps > 1)
     press(own)
-    own.assert_shows([*lines, moved(own.settled())])
+    own.assert_shows([*lines, moved(own.wait_for_count())])
 
 
 def test_the_scrubber_goes_to_a_step(own: Teacher) -> None:
@@ -189,7 +189,7 @@ def test_a_machine_is_kept_as_a_file_and_loaded(own: Teacher) -> None:
     lines = [*own.set_up(LETTERS), moved(3)]
     own.click("#step", 3)
     own.assert_shows(lines)
-    path = own.kept("#save-file")
+    path = own.download("#save-file")
     line = path.read_text(encoding="utf-8").strip()
     machine = json.loads(line)
     assert machine.get("machine", machine) == cells.machine_after(own.cam6, lines)
@@ -203,11 +203,11 @@ def test_a_picture_has_a_pixel_for_each_cell_and_a_film_the_states_one_after_ano
     lines = own.set_up(LETTERS)
     own.click("#keep-picture")
     own.choose("#picture-scale", "1")
-    with Image.open(own.kept("#picture")) as picture:
+    with Image.open(own.download("#picture")) as picture:
         assert cells.difference(picture.convert("RGBA"), cells.picture_after(own.cam6, lines)) == ""
     own.click("#keep-picture")
     own.fill("#film-frames", "5")
-    with Image.open(own.kept("#film")) as film:
+    with Image.open(own.download("#film")) as film:
         assert film.n_frames == 5
         for step in range(film.n_frames):
             film.seek(step)

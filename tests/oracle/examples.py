@@ -173,7 +173,7 @@ class Example:
                 self.want('{"ok":"set"}')
 
     def read(self, mark: str, rest: str) -> None:
-        """Reads a line by its mark."""
+        """Reads a line of the file, as its mark says."""
         if mark in ("=", "@", "|"):
             if not self.rows:
                 raise Unplayable("no rows are begun")
@@ -197,7 +197,7 @@ class Example:
         self.named[name] = written_out(text, self.named)
 
     def set_side(self, side: str) -> None:
-        """Says how long rows are."""
+        """Sets how long rows are from here on."""
         if side not in map(str, SIDES):
             raise Unplayable(f"no side: {side}")
         self.side = int(side)

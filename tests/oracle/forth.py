@@ -140,7 +140,7 @@ class Reader:
         return self.definitions[name]
 
     def body(self) -> list[Item]:
-        """The items up to a `;`. Of each IF that is open there is a list of its bodies."""
+        """Reads the items up to a `;`. Of each IF that is open there is a list of its bodies."""
         whole: list[Item] = []
         opened: list[list[list[Item]]] = []
         while (token := self.word()) != ";":
@@ -168,7 +168,7 @@ class Reader:
         return self.fault(22) if opened else whole
 
     def case(self) -> list[Item]:
-        """The words up to a `}`."""
+        """Reads the words up to a `}`."""
         items = []
         while (token := self.word()) != "}":
             if token is None or token in SIGNS:

@@ -123,7 +123,7 @@ class Machine:
         return {"rows": [self.torus.digits(plane, y) for y in range(self.torus.side)]} if plane < 4 else 65
 
     def do_rule(self, name: str, half: str, hood: str, minor: str, text: str) -> Answer:
-        """Keeps a rule."""
+        """Defines a rule, or redefines it."""
         if not is_rule_name(name):
             return 65
         if self.is_used(name):
@@ -150,7 +150,7 @@ class Machine:
         return {"names": list(self.rules)}
 
     def do_cycle(self, entries: list[dict[str, Any]]) -> Answer:
-        """Keeps a cycle."""
+        """Sets the cycle."""
         if not 1 <= len(entries) <= 16 or any(entry["phase"] > 3 for entry in entries):
             return 65
         for half, name in ((half, entry[half.lower()]) for entry in entries for half in "AB"):

@@ -107,7 +107,7 @@ class Torus:
         return f"{int(self.planes[plane][y].translate(DIGITS), 2):0{self.side // 4}x}"
 
     def put(self, plane: int, y: int, digits: str) -> None:
-        """Gives a row these digits."""
+        """Sets a row of a plane to these digits."""
         self.planes[plane][y] = bytes(map(int, f"{int(digits, 16):0{self.side}b}"))
 
     def states(self, y: int) -> Iterator[int]:

@@ -78,7 +78,7 @@ class Asker:
         return cycle_command(*entries)
 
     def pictures(self) -> list[Callable[[], Command]]:
-        """Rows to be set. Their digits are chosen when the side is known."""
+        """Two to four commands to set a row. Their digits are chosen when the side is known."""
         return [self.ask_picture] * self.random.randrange(2, 5)
 
     def row(self) -> int:
@@ -127,7 +127,7 @@ class Asker:
         return self.command()
 
     def ask_blank(self) -> Command:
-        """Blank planes, and pictures on them."""
+        """Plans to clear all planes and to draw pictures on them. Returns the first command."""
         self.wishes += [*(do("clear", plane=plane) for plane in range(4)), *self.pictures()]
         return do("side", side=self.side()) if self.random.random() < 0.5 else self.command()
 

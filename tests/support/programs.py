@@ -220,7 +220,7 @@ class Peer:
         return line[:-1].decode() if line.endswith(b"\n") else None
 
     def ask(self, line: str) -> str | None:
-        """The answer to a line."""
+        """Sends a line, and returns the answer."""
         self.send(f"{line}\n")
         return self.read()
 

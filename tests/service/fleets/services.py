@@ -276,7 +276,8 @@ class Fleet:
             return socket.create_connection((address, port), PATIENCE, (source, 0) if source else None)
 
     def by_tls(self, stream: socket.socket, name: str | None = NAME, certificate: str = "") -> Peer:
-        """A connection by TLS, with a certificate of the fleet, to a name that is looked at, if there is one."""
+        """Starts TLS on a connection, with a client's certificate of the fleet if one is named. Sends `name`, and
+        checks it if it is the usual one."""
         context = ssl.create_default_context(cafile=self.authority)
         context.check_hostname = name == NAME
         if certificate:

@@ -48,7 +48,8 @@ class Call(Generic[T]):
 
 
 def number(value: Any, name: str, low: int, high: int) -> int:
-    """A whole number of a range, as an `int`. numpy's whole numbers are taken. True, 1.0 and "1" are not."""
+    """Returns a value as an `int` if it is a whole number of a range, else raises. numpy's whole numbers are taken.
+    True, 1.0 and "1" are not."""
     if type(value) is not int:
         if isinstance(value, bool) or type(value).__name__ in ("bool_", "bool"):
             raise TypeError(f"{name} is a whole number from {low} to {high}, not {value!r}")
@@ -62,7 +63,7 @@ def number(value: Any, name: str, low: int, high: int) -> int:
 
 
 def text_of(value: Any, name: str) -> str:
-    """A text that UTF-8 can say."""
+    """Returns a value if it is a text that UTF-8 can encode, else raises."""
     if not isinstance(value, str):
         raise TypeError(f"{name} is a text, not {value!r:.60}")
     try:
@@ -73,7 +74,7 @@ def text_of(value: Any, name: str) -> str:
 
 
 def one_of(value: Any, name: str, words: Iterable[str]) -> str:
-    """One of some words."""
+    """Returns a value if it is one of some words, else raises."""
     words = list(words)
     if not isinstance(value, str):
         raise TypeError(f"{name} is one of {', '.join(words)}, not {value!r:.60}")
@@ -83,7 +84,7 @@ def one_of(value: Any, name: str, words: Iterable[str]) -> str:
 
 
 def rule_name(value: Any, name: str = "name") -> str:
-    """The name of a rule."""
+    """Returns a value if a rule may have it as its name, else raises."""
     text = text_of(value, name)
     if not 1 <= len(text) <= 24 or text == "-" or any(not "!" <= letter <= "~" or letter in '"\\' for letter in text):
         raise ValueError(

@@ -263,7 +263,8 @@ class Machine:
         return self._steps("back", n)
 
     def _steps(self, word: str, n: Any) -> int:
-        """Sends a line at a time, so that not much is under way if the call is interrupted."""
+        """Does or undoes steps, and returns the position. Sends a line at a time, so that not much is under way if the
+        call is interrupted."""
         call = lines.steps(word, n)
         replies: list[bytes] = []
         with self._lock:

@@ -255,7 +255,7 @@ def _colour_rows(cells: Any, colours: Optional[Sequence[int]]) -> List[bytes]:
 
 
 def _array_rows(cells: Any) -> List[bytes]:
-    """The rows of a numpy array."""
+    """The rows of a numpy array, a byte a cell. Raises PictureError unless its numbers are 0 to 15."""
     module = numpy()
     if cells.ndim != 2 or not (cells.dtype == bool or module.issubdtype(cells.dtype, module.integer)):
         raise PictureError("an array of cells has rows and columns of whole numbers")
