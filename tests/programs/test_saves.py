@@ -75,7 +75,7 @@ def alone(cam6: str) -> Iterator[Asks]:
 
         def begin(*words: str, limit: int = 512) -> Ask:
             processes.append(stack.enter_context(LineProcess([cam6, *(words or ("alone", "--side", str(limit)))])))
-            return processes[-1].reply
+            return processes[-1].ask
 
         yield begin
         assert [process.rest() for process in processes] == [b""] * len(processes)
