@@ -111,7 +111,7 @@ def assert_no_memory_is_held(trial: Trial, process: int, send: Send, read: Read)
 @pytest.mark.parametrize("trial", ALONE, ids=NAMES)
 def test_a_private_machine_holds_no_memory(trial: Trial, cam6: str) -> None:
     with LineProcess([cam6, "alone", f"--side={256 if trial in SHORT else 512}"]) as it:
-        assert_no_memory_is_held(trial, it.process.pid, it.say, lambda size: os.read(it.output, size))
+        assert_no_memory_is_held(trial, it.process.pid, it.send, lambda size: os.read(it.output, size))
         assert it.rest() == b""
 
 
