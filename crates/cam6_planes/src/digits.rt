@@ -29,7 +29,7 @@ impl Model for Bits {
 
 impl Bits {
     /// Lends the bytes of the row, one for each eight columns of its side. The first byte has
-    /// columns 0 to 7.
+    /// columns 0 to 7, and its highest bit is column 0.
     pub fn as_slice(&self) -> &[u8]
         ensures { result.now ≡ self.now }
     {
@@ -37,8 +37,9 @@ impl Bits {
     }
 }
 
-/// Returns the row that hexadecimal digits of either case stand for. Returns `None` if a row of
-/// none of the three sides has so many digits, or if one of them is not a digit.
+/// Returns the row that ASCII hexadecimal digits of either case stand for, four columns to a digit
+/// from column 0 on. Returns `None` if there aren't 32, 64 or 128 digits, or if a byte is not a
+/// digit.
 pub fn bits_of_digits(digits: &[u8]) -> Option<Bits>
     ensures { result ≡ bits_of_digits digits.now }
 {
@@ -48,7 +49,8 @@ pub fn bits_of_digits(digits: &[u8]) -> Option<Bits>
     Some(Bits { side, bytes })
 }
 
-/// Returns the side whose rows have `count` hexadecimal digits, or `None` if there is none.
+/// Returns the side whose rows have `count` hexadecimal digits: 32, 64 or 128. Returns `None` for
+/// any other count.
 fn side_of_digits(count: usize) -> Option<Side>
     ensures { result ≡ side_of (4 * count) }
 {
@@ -59,7 +61,7 @@ fn side_of_digits(count: usize) -> Option<Side>
 }
 
 /// Fills `text` with the row's lower case hexadecimal digits from column 0 on, four columns to a
-/// digit.
+/// digit. The length of `text` has to be even, and at most `DIGITS`.
 pub(crate) fn write_hex(row: &Row, text: &mut [u8])
     requires bytes { length text.old % 2 ≡ 0 }
     requires row { length text.old ≤ DIGITS }
@@ -79,7 +81,8 @@ pub(crate) fn bits_of_row(row: &Row, side: Side) -> Bits
     }
 }
 
-/// Returns all bytes of the row, also those past its side. The first byte has columns 0 to 7.
+/// Returns all bytes of the row, also those past its side. The first byte has columns 0 to 7, and
+/// its highest bit is column 0.
 fn bytes_of_row(row: &Row) -> [u8; BYTES]
     ensures { (x : ℕ) → x < 8 * BYTES → byte_column result x ≡ column_bit row.now x }
 {
@@ -90,7 +93,8 @@ fn bytes_of_row(row: &Row) -> [u8; BYTES]
     bytes
 }
 
-/// Returns the byte of columns 8k to 8k + 7 of the word. Its highest bit is column 8k.
+/// Returns the byte of columns 8k to 8k + 7 of the word, for `k` from 0 to 7. Its highest bit is
+/// column 8k.
 fn byte_of_word(word: u64, k: usize) -> u8
     requires { k < 8 }
     ensures { (c : ℕ) → c < 8 → (bit_at result (7 - c) == 1) ≡ word_column word (8 * k + c) }

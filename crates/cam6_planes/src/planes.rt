@@ -43,7 +43,8 @@ impl Model for Planes {
 }
 
 impl Planes {
-    /// Allocates planes of the limit's side, with every bit 0. No other function here allocates.
+    /// Allocates planes of the limit's side, with every bit 0. Returns `NoMemory` if the allocation
+    /// fails. No other function here allocates.
     pub fn blank(alloc: Global, limit: Side) -> Result<Planes, NoMemory>
         ensures cells { IfOk result (λ planes. cells planes ≡ no_cells) }
         ensures side { IfOk result (λ planes. planes.side ≡ limit) }
@@ -76,7 +77,8 @@ impl Planes {
         self.limit
     }
 
-    /// Changes the side, and sets every bit to 0. Does not allocate.
+    /// Changes the side, which has to be at most the limit, and sets every bit to 0. Does not
+    /// allocate.
     pub fn set_side(&mut self, side: Side)
         requires { side_number side ≤ side_number self.old.limit }
         ensures cells { cells self.new ≡ no_cells }
@@ -87,7 +89,7 @@ impl Planes {
         self.side = side;
     }
 
-    /// The bit of plane `p` at column `x` of row `y`.
+    /// The bit of plane `p`, from 0 to 3, at column `x` of row `y`. Both have to be below the side.
     #[tactic(auto, using(crate::proofs::CellsAt::cells_at, crate::proofs::SideNumbers::side_most))]
     pub fn bit(&self, p: usize, x: usize, y: usize) -> bool
         requires plane { p < 4 }
@@ -98,7 +100,8 @@ impl Planes {
         is_set(&plane_row(&self.rows[y], p), x)
     }
 
-    /// Returns row `y` of plane `p`, 64 columns to a word. Words past the side are 0.
+    /// Returns row `y` of plane `p`, 64 columns to a word. Column 0 is the highest bit of the first
+    /// word. Words past the side are 0. `p` has to be below 4, and `y` below the side.
     pub fn row_words(&self, p: usize, y: usize) -> Row
         requires plane { p < 4 }
         requires row { y < width self.now }
@@ -113,7 +116,8 @@ impl Planes {
         row
     }
 
-    /// Lends row `y` of all four planes. Its words past the side may hold anything.
+    /// Lends row `y` of all four planes, plane 0 first. Its words past the side may hold anything.
+    /// `y` has to be below the side.
     #[tactic(auto, using(crate::proofs::CellsAt::row_of_stored))]
     pub fn row(&self, y: usize) -> &CellRow
         requires { y < width self.now }
@@ -122,8 +126,9 @@ impl Planes {
         &self.rows[y]
     }
 
-    /// Writes row `y` of plane `p` to `text` as lower case hexadecimal digits, and returns how many
-    /// digits it wrote. The rest of `text` stays as it was.
+    /// Writes row `y` of plane `p` to `text` as lower case hexadecimal digits, from column 0 on.
+    /// Returns how many digits it wrote: a quarter of the side. The rest of `text` stays as it was.
+    /// `p` has to be below 4, and `y` below the side.
     pub fn row_hex(&self, p: usize, y: usize, text: &mut [u8; DIGITS]) -> usize
         requires plane { p < 4 }
         requires row { y < width self.now }
@@ -138,7 +143,8 @@ impl Planes {
         digits
     }
 
-    /// Returns the bits of row `y` of plane `p`, as many as the side has columns.
+    /// Returns the bits of row `y` of plane `p`, as many as the side has columns. `p` has to be
+    /// below 4, and `y` below the side.
     pub fn row_bits(&self, p: usize, y: usize) -> Bits
         requires plane { p < 4 }
         requires row { y < width self.now }
@@ -147,7 +153,8 @@ impl Planes {
         bits_of_row(&self.row_words(p, y), self.side)
     }
 
-    /// Replaces row `y` of plane `p`. Words past the side are ignored.
+    /// Replaces row `y` of plane `p`. Column 0 is the highest bit of the first word. Words past the
+    /// side are ignored. `p` has to be below 4, and `y` below the side.
     pub fn set_row_words(&mut self, p: usize, y: usize, words: Row)
         requires plane { p < 4 }
         requires row { y < width self.old }
@@ -159,7 +166,8 @@ impl Planes {
         set_plane_row(&mut self.rows[y], p, words);
     }
 
-    /// Replaces row `y` of plane `p` by the bits of these bytes. The first byte has columns 0 to 7.
+    /// Replaces row `y` of plane `p` by these bytes, one for each eight columns of the side. The
+    /// highest bit of the first byte is column 0. `p` has to be below 4, and `y` below the side.
     pub fn put_row(&mut self, p: usize, y: usize, bits: &[u8])
         requires plane { p < 4 }
         requires row { y < width self.old }
@@ -173,7 +181,7 @@ impl Planes {
         self.set_row_words(p, y, row_of_bytes(bits, words));
     }
 
-    /// Sets every bit of plane `p` to 0.
+    /// Sets every bit of plane `p`, from 0 to 3, to 0.
     pub fn clear_plane(&mut self, p: usize)
         requires { p < 4 }
         ensures cells { cells self.new ≡ without_plane (width self.old) (cells self.old) p }
@@ -183,7 +191,8 @@ impl Planes {
         clear_rows(&mut self.rows, p);
     }
 
-    /// Copies the cells and the side of other planes. The limit stays as it was.
+    /// Copies the cells and the side of other planes. The limit stays as it was, and the other side
+    /// has to be within it.
     pub fn copy_from(&mut self, other: &Planes)
         requires { width other.now ≤ side_number self.old.limit }
         ensures cells { cells self.new ≡ cells other.now }
@@ -195,7 +204,8 @@ impl Planes {
     }
 }
 
-/// Copies the first `count` rows of `from` to `to`.
+/// Copies the first `count` rows of `from` to `to`. Both need at least as many rows. The other rows
+/// of `to` stay as they are.
 fn copy_rows(to: &mut [CellRow], from: &[CellRow], count: usize)
     requires to { count ≤ length to.old }
     requires from { count ≤ length from.now }
@@ -216,7 +226,7 @@ fn clear(rows: &mut [CellRow])
     }
 }
 
-/// Sets plane `p` to 0 in each row. The other planes stay as they are.
+/// Sets plane `p`, from 0 to 3, to 0 in each row. The other planes stay as they are.
 fn clear_rows(rows: &mut [CellRow], p: usize)
     requires { p < 4 }
     ensures planes { (y : ℕ) → y < length rows.old → length (slice_index_or rows.old y []) ≡ 4 }
@@ -228,7 +238,7 @@ fn clear_rows(rows: &mut [CellRow], p: usize)
     }
 }
 
-/// Returns the words of plane `p` in a stored row of all four planes.
+/// Returns the words of plane `p`, from 0 to 3, in a stored row of all four planes.
 fn plane_row(rows: &CellRow, p: usize) -> Row
     requires { p < 4 }
     ensures { result ≡ slice_index_or rows.now p [] }
@@ -236,7 +246,8 @@ fn plane_row(rows: &CellRow, p: usize) -> Row
     rows[p]
 }
 
-/// Replaces the words of plane `p` in a stored row. The other planes stay as they are.
+/// Replaces the words of plane `p`, from 0 to 3, in a stored row. The other planes stay as they
+/// are.
 fn set_plane_row(rows: &mut CellRow, p: usize, words: Row)
     requires { p < 4 }
     ensures planes { length rows.old ≡ 4 }

@@ -81,8 +81,8 @@ pub fn put_east(shifted: &mut Row, row: &Row, side: Side)
     shifted[last] = moved_west(row[last], row[0]);
 }
 
-/// Returns the word with each bit moved to the next column east. The first column gets the last bit
-/// of `before`, and the word's own last bit is dropped.
+/// Returns the word with each bit moved to the next column east, the next lower bit. The first
+/// column gets the last bit of `before`, and the word's own last bit is dropped.
 #[inline]
 pub fn moved_east(word: u64, before: u64) -> u64
     ensures first { word_column result 0 ≡ word_column before 63 }
@@ -91,8 +91,8 @@ pub fn moved_east(word: u64, before: u64) -> u64
     word >> 1 | before << 63
 }
 
-/// Returns the word with each bit moved to the next column west. The last column gets the first bit
-/// of `after`, and the word's own first bit is dropped.
+/// Returns the word with each bit moved to the next column west, the next higher bit. The last
+/// column gets the first bit of `after`, and the word's own first bit is dropped.
 #[inline]
 pub fn moved_west(word: u64, after: u64) -> u64
     ensures others { (c : ℕ) → c < 63 → word_column result c ≡ word_column word (c + 1) }
@@ -101,7 +101,8 @@ pub fn moved_west(word: u64, after: u64) -> u64
     word << 1 | after >> 63
 }
 
-/// Whether the row has 1 at column `x`.
+/// Whether the row has 1 at column `x`, from 0 to 511. Column 0 is the highest bit of the first
+/// word.
 pub(crate) fn is_set(row: &Row, x: usize) -> bool
     requires { x < 64 * WORDS }
     ensures { result ≡ column_bit row.now x }
@@ -109,8 +110,8 @@ pub(crate) fn is_set(row: &Row, x: usize) -> bool
     row[x / 64] >> (63 - x % 64) & 1 == 1
 }
 
-/// Returns the row whose first `words` words have these bytes, eight to a word. The first byte has
-/// columns 0 to 7. The other words are 0.
+/// Returns the row whose first `words` words, at most `WORDS`, have these bytes, exactly eight to a
+/// word. The highest bit of the first byte is column 0. The other words are 0.
 pub(crate) fn row_of_bytes(bytes: &[u8], words: usize) -> Row
     requires bytes { length bytes.now ≡ 8 * words }
     requires room { words ≤ WORDS }
@@ -123,7 +124,8 @@ pub(crate) fn row_of_bytes(bytes: &[u8], words: usize) -> Row
     row
 }
 
-/// Returns the word whose 64 columns have bytes 8i to 8i + 7. The first of them has columns 0 to 7.
+/// Returns the word whose 64 columns have bytes 8i to 8i + 7 of `bytes`, all of which it must have.
+/// The highest bit of byte 8i is column 0 of the word.
 fn word_of_bytes(bytes: &[u8], i: usize) -> u64
     requires { 8 * i + 8 ≤ length bytes.now }
     ensures { (c : ℕ) → c < 64 → word_column result c ≡ byte_column bytes.now (64 * i + c) }
