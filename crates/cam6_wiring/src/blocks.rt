@@ -21,7 +21,8 @@ pub enum Corner {
     LowerLeft,
 }
 
-/// Returns the corner of its block in which the cell at column `x` of row `y` lies.
+/// Returns the corner of its block in which the cell at column `x` of row `y` lies. `x` and `y` are
+/// counted from 0.
 pub fn corner_of(grid: Grid, x: usize, y: usize) -> Corner
     ensures { result ≡ corner_of grid x y }
 {
@@ -34,7 +35,7 @@ pub fn corner_of(grid: Grid, x: usize, y: usize) -> Corner
 }
 
 /// Returns the direction from the cell at this corner of a block to the block's cell at this
-/// rotation.
+/// rotation. Clockwise is the next corner clockwise round the block.
 pub fn in_block(corner: Corner, rotation: Rotation) -> Compass
     ensures { result ≡ in_block corner rotation }
 {

@@ -17,8 +17,9 @@ use cam6_planes::{Row, WORDS};
 /// What the cells of a row show on each address line, the lowest line first.
 pub type Lines = [Row; LINES];
 
-/// Returns the twelve address lines of row `y`. At each column they show what the cell there sees
-/// under the lines' names, and 0 on a line without a name. Words past the side may hold anything.
+/// Returns the twelve address lines of row `y`, which has to be the middle row of `rows`. At each
+/// column they show what the cell there sees under the lines' names, and 0 on a line without a
+/// name. Words past the side may hold anything.
 pub fn lines_of_row(
     half: Half,
     hood: Hood,
@@ -45,9 +46,9 @@ pub fn lines_of_row(
     lines
 }
 
-/// Writes the twelve address lines of row `y` to `lines`. At each column they show what the cell
-/// there sees under the lines' names, and 0 on a line without a name. Words past the side may hold
-/// anything.
+/// Writes the twelve address lines of row `y`, the middle row of `rows`, to `lines`. At each column
+/// they show what the cell there sees under the lines' names, and 0 on a line without a name. Words
+/// past the side may hold anything.
 pub fn put_lines(
     lines: &mut Lines,
     setting: Setting,
@@ -70,8 +71,8 @@ pub fn put_lines(
     }
 }
 
-/// Writes one address line of row `y`: at each column what the cell there sees under the line's
-/// name. Without a name every column is 0.
+/// Writes one address line of row `y`, the middle row of `rows`: at each column what the cell there
+/// sees under the line's name. Without a name every column is 0.
 fn put_line(line: &mut Row, setting: Setting, name: Option<Name>, y: usize, rows: &Rows)
     requires { y < side_number rows.now.side }
     ensures { (f : Cells) → AreRowsAround f y rows.now →

@@ -69,7 +69,8 @@ pub enum Name {
 }
 
 impl Half {
-    /// Returns the number of the half's plane at this level, from 0 to 3.
+    /// Returns the number of the half's plane at this level. Half A has planes 0 and 1, and half B
+    /// 2 and 3, the lower level first.
     pub fn plane(self, level: Level) -> usize
         ensures number { result ≡ plane_of self level }
         ensures plane { result < 4 }
@@ -106,7 +107,8 @@ impl Phase {
         }
     }
 
-    /// Returns the low bit of the phase at the lower level, and its high bit at the upper level.
+    /// Returns the low bit of the phase's number at the lower level, and its high bit at the upper
+    /// level.
     pub fn bit(self, level: Level) -> bool
         ensures { result ≡ phase_bit self level }
     {

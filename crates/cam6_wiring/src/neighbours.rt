@@ -21,8 +21,9 @@ pub struct Setting {
     pub phase: Phase,
 }
 
-/// Returns the table address of the cell at column `x` of row `y`. Bit k of it is what the cell
-/// sees under the name of line k, and 0 if the line has no name.
+/// Returns the table address, below 4096, of the cell at column `x` of row `y`, both below the
+/// side. Bit k of it, the lowest being bit 0, is what the cell sees under the name of line k. It is
+/// 0 if the line has no name.
 pub fn address_at(
     planes: &Planes,
     half: Half,
@@ -49,8 +50,8 @@ pub fn address_at(
     address
 }
 
-/// Returns the bit, 0 or 1, that the cell at column `x` of row `y` sees under a line's name.
-/// Returns 0 for a line without a name.
+/// Returns the bit, 0 or 1, that the cell at column `x` of row `y`, both below the side, sees under
+/// a line's name. Returns 0 for a line without a name.
 fn line_bit(planes: &Planes, setting: Setting, line: Option<Name>, x: usize, y: usize) -> u16
     requires column { x < width planes.now }
     requires row { y < width planes.now }
@@ -64,7 +65,8 @@ fn line_bit(planes: &Planes, setting: Setting, line: Option<Name>, x: usize, y: 
     }
 }
 
-/// Returns the bit that the cell at column `x` of row `y` sees under a name.
+/// Returns the bit that the cell at column `x` of row `y`, both below the side, sees under a name.
+/// HORZ is 1 in the right columns of blocks, and VERT in the lower rows.
 pub fn seen(planes: &Planes, setting: Setting, name: Name, x: usize, y: usize) -> bool
     requires column { x < width planes.now }
     requires row { y < width planes.now }
@@ -90,8 +92,9 @@ pub fn seen(planes: &Planes, setting: Setting, name: Name, x: usize, y: usize) -
     }
 }
 
-/// Returns the bit of plane `p` in the cell that lies in this direction from column `x` of row `y`.
-/// At the centre it is the bit of that cell itself.
+/// Returns the bit of plane `p` in the cell that lies in this direction from column `x` of row `y`,
+/// round the torus. At the centre it is the bit of that cell itself. `p` has to be below 4, and `x`
+/// and `y` below the side.
 fn seen_beside(planes: &Planes, compass: Compass, p: usize, x: usize, y: usize) -> bool
     requires plane { p < 4 }
     requires column { x < width planes.now }
@@ -106,7 +109,8 @@ fn seen_beside(planes: &Planes, compass: Compass, p: usize, x: usize, y: usize) 
     )
 }
 
-/// Returns the column that lies in this direction from column `x`, round the torus.
+/// Returns the column that lies in this direction from column `x`, round the torus. It is `x`
+/// itself if the direction has neither west nor east. `x` has to be below the side.
 fn column_beside(side: Side, compass: Compass, x: usize) -> usize
     requires { x < side_number side }
     ensures column { result ≡ column_beside (side_number side) compass x }
@@ -120,7 +124,7 @@ fn column_beside(side: Side, compass: Compass, x: usize) -> usize
 }
 
 /// Returns the row that lies in this direction from row `y`, round the torus. North is the row
-/// before.
+/// before. It is `y` itself without north or south. `y` has to be below the side.
 fn row_beside(side: Side, compass: Compass, y: usize) -> usize
     requires { y < side_number side }
     ensures row { result ≡ row_beside (side_number side) compass y }
@@ -133,7 +137,8 @@ fn row_beside(side: Side, compass: Compass, y: usize) -> usize
     }
 }
 
-/// The column to the west of `x`, round the torus.
+/// The column to the west of `x`, round the torus: `x - 1`, or the last column for 0. `x` has to be
+/// below the side.
 pub(crate) fn west_of(side: Side, x: usize) -> usize
     requires { x < side_number side }
     ensures column { result ≡ west_of (side_number side) x }
@@ -142,7 +147,8 @@ pub(crate) fn west_of(side: Side, x: usize) -> usize
     if x == 0 { side.number() - 1 } else { x - 1 }
 }
 
-/// The column to the east of `x`, round the torus.
+/// The column to the east of `x`, round the torus: `x + 1`, or 0 for the last column. `x` has to be
+/// below the side.
 pub(crate) fn east_of(side: Side, x: usize) -> usize
     requires { x < side_number side }
     ensures column { result ≡ east_of (side_number side) x }
@@ -152,7 +158,7 @@ pub(crate) fn east_of(side: Side, x: usize) -> usize
 }
 
 /// Returns the bit of plane `p` in the cell at this rotation from the cell at column `x` of row
-/// `y`, in their common block.
+/// `y`, in their common block. `p` has to be below 4, and `x` and `y` below the side.
 fn seen_in_block(
     planes: &Planes,
     grid: Grid,

@@ -26,6 +26,7 @@ pub struct Rows<'a> {
 
 impl<'a> Rows<'a> {
     /// Lends row `y` of the planes, with the rows to its north and to its south, round the torus.
+    /// `y` has to be below the side.
     pub fn around(planes: &'a Planes, y: usize) -> Rows<'a>
         requires { y < width planes.now }
         ensures rows { AreRowsAround (cells planes.now) y result }
@@ -41,7 +42,8 @@ impl<'a> Rows<'a> {
     }
 }
 
-/// Writes to `line`, at each column of row `y`, the bit that the cell there sees under a name.
+/// Writes to `line`, at each column of row `y`, the bit that the cell there sees under a name. `y`
+/// has to be the number of the middle row of `rows`. Words past the side may hold anything.
 pub(crate) fn put_seen(line: &mut Row, setting: Setting, name: Name, y: usize, rows: &Rows)
     requires { y < side_number rows.now.side }
     ensures { (f : Cells) → AreRowsAround f y rows.now →
@@ -69,8 +71,8 @@ pub(crate) fn put_seen(line: &mut Row, setting: Setting, name: Name, y: usize, r
 }
 
 /// Writes to `line`, at each column of row `y`, the bit of plane `p` in the block's cell at this
-/// rotation. Cells of even columns are at one corner of their block, and those of odd columns at
-/// another.
+/// rotation. `y` has to be the middle row of `rows`, and `p` below 4. Cells of even columns are at
+/// one corner of their block, and those of odd columns at another.
 fn put_in_block(line: &mut Row, grid: Grid, rotation: Rotation, p: usize, y: usize, rows: &Rows)
     requires plane { p < 4 }
     requires row { y < side_number rows.now.side }
@@ -85,7 +87,7 @@ fn put_in_block(line: &mut Row, grid: Grid, rotation: Rotation, p: usize, y: usi
 }
 
 /// Writes to `line`, at each column, the bit of plane `p` in the cell that lies in this direction
-/// from the middle row's cell.
+/// from the middle row's cell. West and east go round the torus. `p` has to be below 4.
 fn put_beside(line: &mut Row, compass: Compass, p: usize, rows: &Rows)
     requires plane { p < 4 }
     ensures { (f : Cells) (y : ℕ) → AreRowsAround f y rows.now → y < side_number rows.now.side →
@@ -96,8 +98,8 @@ fn put_beside(line: &mut Row, compass: Compass, p: usize, rows: &Rows)
     put_columns_beside(line, compass, row, rows.side);
 }
 
-/// Writes to `line`, at each column, the bit that `row` has in the column to the west or east. If
-/// the direction has neither, copies `row`.
+/// Writes to `line`, at each column, the bit that `row` has in the column to the west or east,
+/// round the torus. If the direction has neither, copies `row`.
 fn put_columns_beside(line: &mut Row, compass: Compass, row: &Row, side: Side)
     ensures { let s = side_number side in
         (x : ℕ) → x < s → column_bit line.new x ≡ column_bit row.now (column_beside s compass x) }

@@ -18,7 +18,7 @@ impl Half {
         }
     }
 
-    /// Returns the half that has this text, or `None` if there is none.
+    /// Returns the half that has exactly this text, in capitals, or `None` if there is none.
     pub fn named(text: &str) -> Option<Half>
         ensures { result ≡ half_named text.now }
     {
@@ -34,7 +34,7 @@ impl Hood {
     ghost use Rattle.std.specs.Prelude.{◌≡◌};
     ghost use Rattle.cam6_wiring.specs.Texts.{hood_text, hood_named};
 
-    /// The text of a neighbourhood, for example `N/VONN`.
+    /// The text of a neighbourhood: `N/MOORE`, `N/VONN`, `N/MARG`, `N/MARG-PH` or `N/MARG-HV`.
     pub fn text(self) -> &'static str
         ensures { result.now ≡ hood_text self }
     {
@@ -47,7 +47,8 @@ impl Hood {
         }
     }
 
-    /// Returns the neighbourhood that has this text, or `None` if there is none.
+    /// Returns the neighbourhood that has exactly this text, in capitals, or `None` if there is
+    /// none.
     pub fn named(text: &str) -> Option<Hood>
         ensures { result ≡ hood_named text.now }
     {
@@ -66,7 +67,7 @@ impl Minor {
     ghost use Rattle.std.specs.Prelude.{◌≡◌};
     ghost use Rattle.cam6_wiring.specs.Texts.{minor_text, minor_named};
 
-    /// The text of a minor assignment, for example `&/CENTERS`.
+    /// The text of a minor assignment: `&/CENTERS`, `&/PHASES` or `&/HV`.
     pub fn text(self) -> &'static str
         ensures { result.now ≡ minor_text self }
     {
@@ -77,7 +78,8 @@ impl Minor {
         }
     }
 
-    /// Returns the minor assignment that has this text, or `None` if there is none.
+    /// Returns the minor assignment that has exactly this text, in capitals, or `None` if there is
+    /// none.
     pub fn named(text: &str) -> Option<Minor>
         ensures { result ≡ minor_named text.now }
     {
@@ -104,7 +106,7 @@ impl Grid {
         }
     }
 
-    /// Returns the grid that has this text, or `None` if there is none.
+    /// Returns the grid that has exactly this text, in capitals, or `None` if there is none.
     pub fn named(text: &str) -> Option<Grid>
         ensures { result ≡ grid_named text.now }
     {

@@ -55,7 +55,8 @@ impl Hood {
 /// Address lines of a half.
 pub const LINES: usize = 12;
 
-/// Returns the address line on which a name stands, or `None` if the wiring lacks the name.
+/// Returns the address line, from 0 to 11, on which a name stands, or `None` if the wiring lacks
+/// the name.
 #[tactic(auto, unfolding(crate::specs::Wiring::line_of))]
 pub fn line_of(hood: Hood, minor: Minor, name: Name) -> Option<u8>
     ensures line { result ≡ line_of hood minor name }
@@ -79,7 +80,7 @@ fn is_at(name: Name, known: Option<Name>) -> bool
     }
 }
 
-/// Returns the name of each line, the lowest first, or `None` for a line without one.
+/// Returns the name of each address line, line 0 first, or `None` for a line without one.
 pub fn names_of(hood: Hood, minor: Minor) -> [Option<Name>; LINES]
     ensures { result ≡ names_of hood minor }
 {
@@ -104,7 +105,8 @@ fn upper(compass: Compass) -> Option<Name>
     Some(Name::Beside(compass, Level::Upper))
 }
 
-/// Returns the names of lines 0 to 9. Only lines 8 and 9 may have none.
+/// Returns the names of lines 0 to 9, line 0 first. Only lines 8 and 9 may have none: `None`, as
+/// they have under N/MARG.
 fn hood_names(hood: Hood) -> [Option<Name>; 10]
     ensures { result ≡ hood_names hood }
 {
@@ -142,8 +144,8 @@ fn hood_names(hood: Hood) -> [Option<Name>; 10]
     }
 }
 
-/// Returns the names of lines 0 to 9 of a Margolus neighbourhood. `last` has those of lines 8 and
-/// 9.
+/// Returns the names of lines 0 to 9 of a Margolus neighbourhood, line 0 first. `last` has those of
+/// lines 8 and 9, or `None`.
 fn block_names(last: [Option<Name>; 2]) -> [Option<Name>; 10]
     ensures { result ≡ block_names last }
 {
@@ -162,7 +164,7 @@ fn block_names(last: [Option<Name>; 2]) -> [Option<Name>; 10]
     ]
 }
 
-/// Returns the names of lines 10 and 11.
+/// Returns the names of lines 10 and 11, in this order. None is missing.
 fn minor_names(minor: Minor) -> [Option<Name>; 2]
     ensures { result ≡ minor_names minor }
 {
