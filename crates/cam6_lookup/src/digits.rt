@@ -28,7 +28,8 @@ impl Digit {
         }
     }
 
-    /// Returns a word with 1 at each position whose number has 0 as this binary digit.
+    /// Returns a word with 1 at each position whose number has 0 as this binary digit. Position 0
+    /// is the lowest bit.
     #[inline(always)]
     fn zeros(self) -> u64
         ensures { (p : ℕ) → p < 64 → bit_at result p ≡ 1 - digit_of self p }
@@ -41,7 +42,8 @@ impl Digit {
         }
     }
 
-    /// Returns a word with 1 at each position whose number has 1 as this binary digit.
+    /// Returns a word with 1 at each position whose number has 1 as this binary digit. Position 0
+    /// is the lowest bit.
     #[inline(always)]
     fn ones(self) -> u64
         ensures { (p : ℕ) → p < 64 → bit_at result p ≡ digit_of self p }
@@ -56,6 +58,7 @@ impl Digit {
 
     /// Returns the first of two words after a swap at this digit. At positions with the digit 0 it
     /// keeps its bits. At the others it gets the second word's bits from `worth` positions below.
+    /// Position 0 is the lowest bit.
     #[inline(always)]
     pub(crate) fn first(self, first: u64, second: u64) -> u64
         ensures kept { (p : ℕ) → p < 64 → digit_of self p ≡ 0 → bit_at result p ≡ bit_at first p }
@@ -68,6 +71,7 @@ impl Digit {
 
     /// Returns the second of two words after a swap at this digit. At positions with the digit 1 it
     /// keeps its bits. At the others it gets the first word's bits from `worth` positions above.
+    /// Position 0 is the lowest bit.
     #[inline(always)]
     pub(crate) fn second(self, first: u64, second: u64) -> u64
         ensures taken { (p : ℕ) → p < 64 → digit_of self p ≡ 0 →

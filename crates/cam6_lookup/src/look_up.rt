@@ -14,7 +14,8 @@ use cam6_planes::{Row, Side, WORDS};
 use cam6_wiring::{LINES, Lines};
 
 /// Writes two rows. At each column, `lower` gets the lowest bit, and `upper` the next, of the entry
-/// at the address that the lines show there. Words past the side may hold anything.
+/// at the address that the lines show there. Line k is bit k of the address. There have to be 4096
+/// entries. Words past the side may hold anything.
 pub fn look_up_rows(lower: &mut Row, upper: &mut Row, lines: &Lines, side: Side, entries: &[u8])
     requires { length entries.now ≡ 2 ^ LINES }
     ensures lower { (x : ℕ) → x < side_number side →
@@ -29,9 +30,10 @@ pub fn look_up_rows(lower: &mut Row, upper: &mut Row, lines: &Lines, side: Side,
     look_up_words::<WORDS>(lower, upper, &rows, side.number() / 64, entries);
 }
 
-/// Writes the first `count` words of two planes. At each column, `lower` gets the lowest bit, and
-/// `upper` the next, of the entry at the address that the lines show there. Words past these may
-/// hold anything.
+/// Writes the first `count` words, an even number up to `N`, of two planes. At each column, `lower`
+/// gets the lowest bit, and `upper` the next, of the entry at the address that the lines show
+/// there. Line k is bit k of the address. There have to be 4096 entries. Words past these may hold
+/// anything.
 pub fn look_up_words<const N: usize>(
     lower: &mut [u64; N],
     upper: &mut [u64; N],
@@ -58,8 +60,9 @@ pub fn look_up_words<const N: usize>(
     }
 }
 
-/// Returns word `i` of the lower plane, and of the upper one. Each position has the bit of the
-/// entry at the address that `rows` has for this position.
+/// Returns word `i`, 0 or 1, of the lower plane, and of the upper one. Each position has the bit of
+/// the entry at the address that `rows` has for it, as `shown_addresses` makes them. There have to
+/// be 4096 entries.
 fn words(rows: &Sixteen, i: usize, entries: &[u8]) -> (u64, u64)
     requires word { i < 2 }
     requires entries { length entries.now ≡ 2 ^ LINES }
@@ -81,8 +84,8 @@ fn words(rows: &Sixteen, i: usize, entries: &[u8]) -> (u64, u64)
 /// The first position of each lane.
 const FIRST_POSITIONS: u64 = 0x0001_0001_0001_0001;
 
-/// Moves the bits of each lane of sixteen bits one position up. The first bit of the lane becomes
-/// that of `four`. The last bit of each lane has to be 0, or it falls into the next lane.
+/// Moves the bits of each lane of sixteen bits one position up. The lowest bit of each lane becomes
+/// that of `four`. The highest bit of each lane has to be 0, or it is lost.
 fn one_more(word: u64, four: u64) -> u64
     ensures first { (p : ℕ) → p < 64 → p % 16 ≡ 0 → (0 < p → bit_at word (p - 1) ≡ 0) →
         bit_at result p ≡ bit_at four p }
@@ -92,7 +95,8 @@ fn one_more(word: u64, four: u64) -> u64
 }
 
 /// Returns four entries, each in a lane of sixteen bits. They are those at the addresses in the
-/// four lanes of word `i` of row `k`.
+/// four lanes of word `i`, 0 or 1, of row `k`, below 16. The lowest lane comes from the lowest one,
+/// and only twelve bits of an address are used. There have to be 4096 entries.
 fn four_entries(rows: &Sixteen, k: usize, i: usize, entries: &[u8]) -> u64
     requires row { k < 16 }
     requires word { i < 2 }
@@ -109,7 +113,8 @@ fn four_entries(rows: &Sixteen, k: usize, i: usize, entries: &[u8]) -> u64
     )
 }
 
-/// Returns a word with these four bytes, each in a lane of sixteen bits. `a` has the lowest lane.
+/// Returns a word with these four bytes, each at the low end of a lane of sixteen bits whose other
+/// bits are 0. `a` has the lowest lane.
 fn in_lanes(a: u8, b: u8, c: u8, d: u8) -> u64
     ensures first { (r : ℕ) → r < 16 → bit_at result r ≡ bit_at a r }
     ensures second { (r : ℕ) → r < 16 → bit_at result (16 + r) ≡ bit_at b r }

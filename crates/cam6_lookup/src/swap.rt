@@ -12,8 +12,9 @@ pub(crate) type Pair = [u64; 2];
 /// Sixteen rows of two words.
 pub(crate) type Sixteen = [Pair; 16];
 
-/// Returns the addresses of the 128 columns in words `word` and `word + 1` of the lines. In its
-/// lane l of sixteen bits, row k has the address of position 16 l + k of each word.
+/// Returns the addresses of the 128 columns in words `word` and `word + 1` of the lines, which both
+/// must exist. In its lane l of sixteen bits, row k has the address of position 16 l + k of each
+/// word. Position 0 and lane 0 are the lowest.
 pub(crate) fn shown_addresses<const N: usize>(lines: &[&[u64; N]; LINES], word: usize) -> Sixteen
     requires { word + 2 ≤ N }
     ensures { ShowAddresses result (map (λ line. line.now) lines.now) word }
@@ -22,7 +23,7 @@ pub(crate) fn shown_addresses<const N: usize>(lines: &[&[u64; N]; LINES], word: 
 }
 
 /// Returns the rows transposed, in each lane of sixteen bits: bit k of row r becomes bit r of row
-/// k.
+/// k. Bit 0 is the lowest.
 fn transposed(rows: &Sixteen) -> Sixteen
     ensures { (k i p : ℕ) → k < 16 → i < 2 → p < 64 →
         cell result k i p ≡ cell rows.now (p % 16) i (p / 16 * 16 + k) }
@@ -60,7 +61,7 @@ fn round(rows: &Sixteen, digit: Digit) -> Sixteen
     ]
 }
 
-/// Returns row `k` after the round of this digit.
+/// Returns row `k`, from 0 to 15, as it is after the round of this digit over these rows.
 #[inline]
 fn row_after_round(rows: &Sixteen, k: usize, digit: Digit) -> Pair
     requires { k < 16 }
@@ -79,8 +80,8 @@ fn row_after_round(rows: &Sixteen, k: usize, digit: Digit) -> Pair
     }
 }
 
-/// Returns words `word` and `word + 1` of each of the twelve lines, and four rows of zeros after
-/// them.
+/// Returns words `word` and `word + 1`, which both must exist, of each of the twelve lines, line 0
+/// first. After them come four rows of zeros.
 fn sixteen<const N: usize>(lines: &[&[u64; N]; LINES], word: usize) -> Sixteen
     requires { word + 2 ≤ N }
     ensures { (k i p : ℕ) → k < 12 → i < 2 →
@@ -107,7 +108,7 @@ fn sixteen<const N: usize>(lines: &[&[u64; N]; LINES], word: usize) -> Sixteen
     ]
 }
 
-/// Returns words `word` and `word + 1` of a line.
+/// Returns words `word` and `word + 1` of a line, which both must exist.
 fn pair<const N: usize>(line: &[u64; N], word: usize) -> Pair
     requires { word + 2 ≤ N }
     ensures { (i : ℕ) → i < 2 → slice_index result i ≡ slice_index line.now (word + i) }
