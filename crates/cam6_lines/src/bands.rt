@@ -24,7 +24,8 @@ pub struct Band<'a> {
 }
 
 impl<'a> Band<'a> {
-    /// Lends row `r` of the band, with the rows to its north and to its south.
+    /// Lends row `r` of the band, from 0 to 15, with the rows to its north and to its south. The
+    /// band has to lie in its planes.
     pub fn around(&self, r: usize) -> Rows<'a>
         requires within { IsWithin self.now }
         requires row { r < height }
@@ -40,8 +41,9 @@ impl<'a> Band<'a> {
         }
     }
 
-    /// Lends the row to the north of row `r` of the band, with `r` up to 17. For row 0 it is the
-    /// row to the north of the band, and for row 17 the row to its south.
+    /// Lends the row to the north of row `r` of the band, with `r` from 0 to 17. For row 0 it is
+    /// the row to the north of the band, and for row 17 the row to its south. The band has to lie
+    /// in its planes.
     #[inline(always)]
     pub(crate) fn above(&self, r: usize) -> &'a CellRow
         requires within { IsWithin self.now }

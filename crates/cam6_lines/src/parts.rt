@@ -25,8 +25,9 @@ pub(crate) const PART: usize = 72;
 /// of the row to its south.
 pub(crate) type SeenRows = [u64; PART];
 
-/// Writes to `part` what the cells in the unit's columns see under a name, in each row that is made
-/// for the name. A row of the unit has `W` words, so loops over its words are compiled for as many.
+/// Writes to `part` what the cells in the unit's columns see under a name. All eighteen rows are
+/// made for the centre, west and east, else rows 1 to 16. A row of the unit has to have `W` words,
+/// so loops over its words are compiled for as many. `unit` is its number in the band, from 0.
 #[inline(always)]
 pub(crate) fn put_part<const W: usize>(
     part: &mut SeenRows,
@@ -90,8 +91,8 @@ pub(crate) fn put_part<const W: usize>(
     }
 }
 
-/// Writes to `part` what the cells in the unit's columns see under a name, in each row that is made
-/// for the name. It is for any name. The functions below are for names that many lines have. Each
+/// Writes to `part` what the cells in the unit's columns see under any name, in each row from
+/// `first_row` on that is made for it. The functions below are for names that many lines have. Each
 /// has a loop of its own, so that no row asks anew where its cells look.
 fn put_rows<const W: usize>(
     part: &mut SeenRows,
@@ -127,7 +128,7 @@ fn put_here<const W: usize>(part: &mut SeenRows, side: Side, p: usize, band: &Ba
 }
 
 /// Writes to all eighteen rows of `part`, at each column of the unit, the bit of plane `p` in the
-/// column to the west.
+/// column to the west. West of column 0 is the last column.
 #[inline(always)]
 fn put_west<const W: usize>(part: &mut SeenRows, side: Side, p: usize, band: &Band, unit: usize)
     requires words { 64 * W ≡ columns band.now.planes.now.side }
@@ -141,7 +142,7 @@ fn put_west<const W: usize>(part: &mut SeenRows, side: Side, p: usize, band: &Ba
 }
 
 /// Writes to all eighteen rows of `part`, at each column of the unit, the bit of plane `p` in the
-/// column to the east.
+/// column to the east. East of the last column is column 0.
 #[inline(always)]
 fn put_east<const W: usize>(part: &mut SeenRows, side: Side, p: usize, band: &Band, unit: usize)
     requires words { 64 * W ≡ columns band.now.planes.now.side }
@@ -155,8 +156,8 @@ fn put_east<const W: usize>(part: &mut SeenRows, side: Side, p: usize, band: &Ba
 }
 
 /// Writes to all eighteen rows of `part` the bits of plane `p` in this direction from the unit's
-/// columns. The direction is the centre, west or east. The first row and the last one lie outside
-/// the band, so they are written apart from the others.
+/// columns. The direction has to be the centre, west or east. The first row and the last one lie
+/// outside the band, so they are written apart from the others.
 #[inline(always)]
 fn put_beside<const W: usize>(
     part: &mut SeenRows,
@@ -184,7 +185,8 @@ fn put_beside<const W: usize>(
 }
 
 /// Writes row `j` of `part`: at each column of the unit, the bit of plane `p` in this direction.
-/// Earlier rows stay as they are.
+/// Earlier rows stay as they are. Towards north or south `j` has to be from 1 to 16, else from 0 to
+/// 17.
 #[inline(always)]
 fn put_row_beside<const W: usize>(
     part: &mut SeenRows,
@@ -333,7 +335,7 @@ fn put_in_odd_blocks<const W: usize>(
 }
 
 /// Writes to rows 1 to 16 of `part` what the unit's cells see of plane `p` at this rotation in
-/// their blocks. The band has to be eight whole rows of blocks.
+/// their blocks. The band's first row has to be an upper row of blocks.
 #[inline(always)]
 fn put_from_upper<const W: usize>(
     part: &mut SeenRows,
@@ -360,8 +362,8 @@ fn put_from_upper<const W: usize>(
 }
 
 /// Writes to rows 1 to 16 of `part` what the unit's cells see of plane `p` at this rotation in
-/// their blocks. The band's first row has to share its blocks with the row to its north, and the
-/// last row with the row to its south.
+/// their blocks. The band's first row has to be a lower row of blocks. So it shares its blocks with
+/// the row to its north, and the last row with the row to its south.
 #[inline(always)]
 fn put_from_lower<const W: usize>(
     part: &mut SeenRows,
@@ -390,7 +392,7 @@ fn put_from_lower<const W: usize>(
 
 /// Writes rows `j` and `j + 1` of `part`, the upper and the lower row of the same blocks: what the
 /// unit's cells see of plane `p` at this rotation in their blocks. Both rows are made before the
-/// first is written, so that what they look at is fetched once. Earlier rows stay as they are.
+/// first is written, to fetch what they look at once. Earlier rows stay. `j` is odd, from 1 to 15.
 #[inline(always)]
 fn write_block_rows<const W: usize>(
     part: &mut SeenRows,
@@ -420,9 +422,9 @@ fn write_block_rows<const W: usize>(
     put_row::<W>(part, W * (j + 1), lower);
 }
 
-/// Writes row `j` of `part`: what the unit's cells see of plane `p` at this rotation in their
-/// blocks. `lower` says whether row `j` is the lower row of its blocks. Earlier rows stay as they
-/// are.
+/// Writes row `j` of `part`, from 1 to 16: what the unit's cells see of plane `p` at this rotation
+/// in their blocks. `lower` has to say whether row `j` is the lower row of its blocks. Earlier rows
+/// stay as they are.
 #[inline(always)]
 fn write_block_row<const W: usize>(
     part: &mut SeenRows,
@@ -454,8 +456,8 @@ fn write_block_row<const W: usize>(
     );
 }
 
-/// Returns the first row of a part that is made for this name: 0 or 1. As many rows are left out at
-/// the part's end.
+/// Returns the first row of a part that is made for this name: 0 for the centre, west and east,
+/// else 1. As many rows are left out at the part's end.
 #[inline(always)]
 fn first_row(name: Name) -> usize
     ensures value { result ≡ first_row name }
@@ -467,8 +469,8 @@ fn first_row(name: Name) -> usize
     }
 }
 
-/// Writes the first `W` words of `row` to the part, from the part's word `at` on. The words before
-/// stay as they are.
+/// Writes the first `W` words of `row` to the part, from the part's word `at` on. They have to fit
+/// into its 72 words. The words before stay as they are.
 #[inline(always)]
 fn put_row<const W: usize>(part: &mut SeenRows, at: usize, row: UnitRow)
     requires words { W ≤ ROW_WORDS }

@@ -38,8 +38,8 @@ impl Model for Plan {
 }
 
 impl Plan {
-    /// Returns the plan for these lines under a wiring. The mask `asked` has a bit for each of the
-    /// lines.
+    /// Returns the plan for these lines under a wiring. Bit k of the mask `asked`, the lowest being
+    /// bit 0, is 1 if line k is asked for.
     pub fn of(asked: u16, hood: Hood, minor: Minor) -> Plan
         ensures lines { result.lines ≡ asked }
         ensures hood { result.hood ≡ hood }
@@ -69,7 +69,7 @@ impl Plan {
         }
     }
 
-    /// Whether the plan is for the lines of the mask `asked`, under this wiring.
+    /// Whether the plan was made for exactly the lines of the mask `asked`, under this wiring.
     pub fn is_for(&self, asked: u16, hood: Hood, minor: Minor) -> bool
         ensures lines { IsTrue result → self.now.lines ≡ asked }
         ensures hood { IsTrue result → self.now.hood ≡ hood }

@@ -26,7 +26,9 @@ pub(crate) const ROW_WORDS: usize = 4;
 pub(crate) type UnitRow = [u64; ROW_WORDS];
 
 /// Returns what the cells in the unit's columns see under a name, in row `j` of a part. Row 0 of a
-/// part lies to the north of the band, rows 1 to 16 in it, and row 17 to its south.
+/// part lies to the north of the band, rows 1 to 16 in it, and row 17 to its south. For names other
+/// than the centre, west and east, `j` has to be from 1 to 16. `unit` is the unit's number in the
+/// band, from 0.
 #[inline(always)]
 pub(crate) fn row_seen(
     side: Side,
@@ -82,8 +84,8 @@ pub(crate) fn row_seen(
     }
 }
 
-/// Whether row `j` of a part is the lower row of its blocks. Row 1 of the part is the band's first
-/// row.
+/// Whether row `j` of a part, from 1 to 16, is the lower row of its blocks. Row 1 of the part is
+/// the band's first row.
 #[inline(always)]
 pub(crate) fn is_lower(grid: Grid, band: &Band, j: usize) -> bool
     requires within { IsWithin band.now }
@@ -94,9 +96,9 @@ pub(crate) fn is_lower(grid: Grid, band: &Band, j: usize) -> bool
     side_in_block(grid, band.first + j - 1) == 1
 }
 
-/// Returns what the unit's cells in row `j` of a part see of plane `p` at this rotation in their
-/// blocks. `lower` says whether row `j` is the lower row of its blocks. The other row lies to the
-/// south of the upper one, and to the north of the lower one.
+/// Returns what the unit's cells in row `j` of a part, from 1 to 16, see of plane `p` at this
+/// rotation in their blocks. `lower` has to say whether row `j` is the lower row of its blocks. The
+/// other row lies to the south of the upper one, and to the north of the lower one.
 #[inline(always)]
 pub(crate) fn seen_in_block(
     side: Side,
@@ -135,8 +137,8 @@ pub(crate) fn seen_in_block(
     }
 }
 
-/// Returns the number of the other row of the blocks in which row `j` of a part lies. `lower` says
-/// whether row `j` is their lower row.
+/// Returns the number of the other row of the blocks in which row `j` of a part, from 1 to 16,
+/// lies. It is `j - 1` if `lower`, that is if row `j` is their lower row. Else it is `j + 1`.
 #[inline(always)]
 fn other_row(lower: bool, j: usize) -> usize
     requires first { 0 < j }
@@ -148,9 +150,10 @@ fn other_row(lower: bool, j: usize) -> usize
     if lower { j - 1 } else { j + 1 }
 }
 
-/// Returns the bits in the cells' blocks one corner from the cells in the unit's columns of row
-/// `here`. If `left_along` is true, the left columns look along their row, and the right ones
-/// across to the row `other`. If not, it is the other way round.
+/// Returns, for the cells in the unit's columns of row `here`, the bits of a neighbouring corner of
+/// their blocks. If `left_along` is true, the left columns look along their row, and the right ones
+/// across to the row `other`. If not, it is the other way round. `unit` is the unit's number in the
+/// row, from 0.
 #[inline(always)]
 fn along_or_across(
     grid: Grid,
@@ -175,7 +178,7 @@ fn along_or_across(
 }
 
 /// Returns the bits of `left` in the left columns of the grid's blocks, and those of `right` in the
-/// right columns.
+/// right columns. Columns are counted from the unit's first, which is even in the row.
 #[inline(always)]
 fn by_sides(grid: Grid, left: UnitRow, right: UnitRow) -> UnitRow
     ensures { (i : ℕ) → i < 64 * ROW_WORDS → column_bit result i
@@ -190,7 +193,8 @@ fn by_sides(grid: Grid, left: UnitRow, right: UnitRow) -> UnitRow
     ]
 }
 
-/// Returns what the unit's cells in row `j` of a part see of plane `p` in this direction.
+/// Returns what the unit's cells in row `j` of a part see of plane `p` in this direction. Row 1 is
+/// the band's first row. Towards north or south `j` has to be from 1 to 16, else from 0 to 17.
 #[inline(always)]
 pub(crate) fn seen_beside(
     side: Side,
@@ -216,7 +220,7 @@ pub(crate) fn seen_beside(
 }
 
 /// Returns the number of the row of a part that lies in this direction from row `j`. It is `j - 1`
-/// to the north, `j + 1` to the south, and else `j`.
+/// to the north, `j + 1` to the south, and else `j`. Both have to be from 0 to 17.
 #[inline(always)]
 fn row_beside(compass: Compass, j: usize) -> usize
     requires first { first_beside compass ≤ j }
@@ -232,8 +236,9 @@ fn row_beside(compass: Compass, j: usize) -> usize
     }
 }
 
-/// Returns, at each column of the unit, the row's bit in the column to the west or east. If the
-/// direction has neither, it is the bit of the column itself.
+/// Returns, at each column of the unit, the row's bit in the column to the west or east, round the
+/// torus. If the direction has neither, it is the bit of the column itself. `unit` is the unit's
+/// number in the row, from 0.
 #[inline(always)]
 fn columns_beside(row: &Row, compass: Compass, side: Side, unit: usize) -> UnitRow
     requires { columns side * unit < side_number side }
@@ -247,7 +252,7 @@ fn columns_beside(row: &Row, compass: Compass, side: Side, unit: usize) -> UnitR
     }
 }
 
-/// Returns the row's bits in the unit's columns.
+/// Returns the row's bits in the unit's columns. `unit` is the unit's number in the row, from 0.
 #[inline(always)]
 fn columns_here(row: &Row, side: Side, unit: usize) -> UnitRow
     requires { columns side * unit < side_number side }
@@ -258,6 +263,7 @@ fn columns_here(row: &Row, side: Side, unit: usize) -> UnitRow
 }
 
 /// Returns, at each column of the unit, the row's bit in the column to the west, round the torus.
+/// `unit` is the unit's number in the row, from 0.
 #[inline(always)]
 fn columns_west(row: &Row, side: Side, unit: usize) -> UnitRow
     requires { columns side * unit < side_number side }
@@ -268,6 +274,7 @@ fn columns_west(row: &Row, side: Side, unit: usize) -> UnitRow
 }
 
 /// Returns, at each column of the unit, the row's bit in the column to the east, round the torus.
+/// `unit` is the unit's number in the row, from 0.
 #[inline(always)]
 fn columns_east(row: &Row, side: Side, unit: usize) -> UnitRow
     requires { columns side * unit < side_number side }
@@ -277,7 +284,7 @@ fn columns_east(row: &Row, side: Side, unit: usize) -> UnitRow
     words_east(row, side.words(), words_of_row(side) * unit)
 }
 
-/// Returns the row's four words from word `first` on.
+/// Returns the row's four words from word `first` on, with `first` at most 4.
 #[inline(always)]
 fn words_here(row: &Row, first: usize) -> UnitRow
     requires { first + ROW_WORDS ≤ WORDS }
@@ -286,8 +293,9 @@ fn words_here(row: &Row, first: usize) -> UnitRow
     [row[first], row[first + 1], row[first + 2], row[first + 3]]
 }
 
-/// Returns the row's four words from word `first` on, with each bit replaced by the bit to its
-/// west. West of the first column is the last of the row's `words` words.
+/// Returns the row's four words from word `first` on, at most 4, with each bit replaced by the bit
+/// to its west. West of the first column is the last of the row's `words` words. Result words past
+/// these may hold anything.
 #[inline(always)]
 fn words_west(row: &Row, words: usize, first: usize) -> UnitRow
     requires some { 0 < words }
@@ -306,9 +314,9 @@ fn words_west(row: &Row, words: usize, first: usize) -> UnitRow
 }
 
 /// Returns the row's four words from word `first` on, with each bit replaced by the bit to its
-/// east. East of the last column of the row's `words` words is the first. A row has an even number
-/// of words, and its units begin at even ones. So two of the four have their next word in the row,
-/// whatever its side.
+/// east. East of the last of the row's `words` words is the first. `words` and `first` have to be
+/// even, and `first` at most 4. So two of the four have their next word in the row, whatever its
+/// side.
 #[inline(always)]
 fn words_east(row: &Row, words: usize, first: usize) -> UnitRow
     requires most { words ≤ WORDS }
@@ -327,7 +335,8 @@ fn words_east(row: &Row, words: usize, first: usize) -> UnitRow
     ]
 }
 
-/// Returns the number of the word to the west of word `i`, round a row of `words` words.
+/// Returns the number of the word to the west of word `i`, round a row of `words` words. For word 0
+/// it is `words - 1`.
 #[inline(always)]
 fn word_before(words: usize, i: usize) -> usize
     requires words { 0 < words }
@@ -339,7 +348,8 @@ fn word_before(words: usize, i: usize) -> usize
     if i == 0 { words - 1 } else { i - 1 }
 }
 
-/// Returns the number of the word to the east of word `i`, round a row of `words` words.
+/// Returns the number of the word to the east of word `i`, round a row of `words` words. For the
+/// last word it is 0.
 #[inline(always)]
 fn word_after(words: usize, i: usize) -> usize
     requires words { words ≤ WORDS }

@@ -59,7 +59,8 @@ impl UnitLines {
     }
 
     /// Replaces the lines by what the cells of a unit of the band see on the lines for which the
-    /// plan asks. The other lines show 0. `unit` is the unit's number in the band.
+    /// plan asks. The other lines show 0. `unit` is the unit's number in the band, from 0 to below
+    /// `units_of_band`. The band has to lie in its planes.
     pub fn put(&mut self, plan: &Plan, setting: &Setting, band: &Band, unit: usize)
         requires within { IsWithin band.now }
         requires unit { columns band.now.planes.now.side * unit < side_of band.now }
@@ -74,7 +75,8 @@ impl UnitLines {
         self.words = words_of_row(band.planes.side());
     }
 
-    /// Lends the twelve lines of the unit for which `put` was called last, the lowest line first.
+    /// Lends the twelve lines of the unit for which `put` was called last, line 0 first. They show
+    /// 0 if it has not been called.
     pub fn lines<'a>(&'a self) -> Lines<'a>
         ensures { map (λ line. line.now) result ≡ self.now }
     {
@@ -99,7 +101,8 @@ impl UnitLines {
 }
 
 /// Writes each part that is needed for a unit of the band, by loops that are compiled for the words
-/// of a unit's row.
+/// of a unit's row. There have to be at least as many parts as are needed. `unit` is the unit's
+/// number in the band, from 0.
 fn put_parts(parts: &mut [SeenRows], needed: &Needed, setting: &Setting, band: &Band, unit: usize)
     requires room { needed.now.count ≤ length parts.old }
     requires most { needed.now.count ≤ LINES }
@@ -116,8 +119,8 @@ fn put_parts(parts: &mut [SeenRows], needed: &Needed, setting: &Setting, band: &
     }
 }
 
-/// Writes each part that is needed for a unit of the band, whose side is `side`. A row of the unit
-/// has `W` words.
+/// Writes each part that is needed for a unit of the band, whose side has to be `side`. A row of
+/// the unit has to have `W` words. `unit` is the unit's number in the band, from 0.
 fn put_parts_at<const W: usize>(
     parts: &mut [SeenRows],
     needed: &Needed,
@@ -142,7 +145,7 @@ fn put_parts_at<const W: usize>(
 }
 
 /// Writes to `part` what the cells of a unit of the band see under a name. Without a name the part
-/// stays as it was.
+/// stays as it was. A row of the unit has to have `W` words, and the band has to have this side.
 #[inline(always)]
 fn put_named<const W: usize>(
     part: &mut SeenRows,

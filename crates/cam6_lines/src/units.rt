@@ -13,7 +13,7 @@ pub const UNIT: usize = 64;
 /// The rows of a band, of as many columns as are looked at together, one row after the other.
 pub type Unit = [u64; UNIT];
 
-/// Returns how many words a row of a unit has at this side: 2 or 4.
+/// Returns how many words of 64 columns a row of a unit has at this side: 2 at side 128, else 4.
 pub fn words_of_row(side: Side) -> usize
     ensures value { 64 * result ≡ columns side }
     ensures most { height * result ≤ UNIT }
@@ -24,7 +24,7 @@ pub fn words_of_row(side: Side) -> usize
     }
 }
 
-/// Returns how many units make a band at this side: 1 or 2.
+/// Returns how many units make a band at this side: 2 at side 512, else 1.
 pub fn units_of_band(side: Side) -> usize
     ensures columns { columns side * result ≡ side_number side }
     ensures most { result ≤ 2 }

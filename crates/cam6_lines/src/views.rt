@@ -32,7 +32,8 @@ pub(crate) struct Needed {
 static NOTHING: Unit = [0; UNIT];
 
 /// Lends the unit that a view picks from the parts, or a unit of zeros without a view. A row of the
-/// parts has `words` words.
+/// parts has `words` words, at most 4. The view's part has to be among `parts`, and its row at most
+/// 2.
 #[inline]
 pub(crate) fn unit_of(parts: &[SeenRows], words: usize, view: Option<View>) -> &Unit
     requires view { IfSome view (IsInside (length parts.now)) }
@@ -45,7 +46,8 @@ pub(crate) fn unit_of(parts: &[SeenRows], words: usize, view: Option<View>) -> &
     }
 }
 
-/// Lends the unit that begins at word `start` of the part at index `part`.
+/// Lends the unit that begins at word `start` of the part at index `part`. The part has to exist,
+/// and `start` has to be at most 8.
 #[inline]
 fn unit_at(parts: &[SeenRows], part: usize, start: usize) -> &Unit
     requires part { part < length parts.now }
@@ -66,8 +68,9 @@ impl Needed {
         }
     }
 
-    /// Returns where each line is seen, in which part and from which row on. It is `None` for a
-    /// line that isn't asked for or has no name. Adds the parts in which the lines are seen.
+    /// Returns where each line is seen, in which part and from which row on, line 0 first. It is
+    /// `None` for a line without a bit in the mask `asked` or without a name. Adds the parts in
+    /// which the lines are seen to the list, which has to be empty.
     pub(crate) fn views_of(
         &mut self,
         asked: u16,
@@ -85,7 +88,8 @@ impl Needed {
     }
 
     /// Returns where a line with this name is seen, in which part and from which row on. Returns
-    /// `None` if the line isn't asked for or has no name. Adds the part if it is missing.
+    /// `None` if the line isn't asked for or has no name. Adds the part if it is missing. There
+    /// have to be fewer than twelve parts.
     fn view_of(&mut self, asked: bool, name: Option<Name>) -> Option<View>
         requires { self.old.count < LINES }
         ensures seen { IsSeen self.new asked name result }
@@ -104,7 +108,8 @@ impl Needed {
         }
     }
 
-    /// Returns the index of the part that is made for this name. Adds the part if it is missing.
+    /// Returns the index in the list of the part that is made for this name. Adds the part at the
+    /// end if it is missing. There have to be fewer than twelve parts.
     fn place_of(&mut self, name: Name) -> usize
         requires { self.old.count < LINES }
         ensures place { IsPartFor self.new name result }
@@ -133,7 +138,7 @@ fn is_named(known: Option<Name>, name: Name) -> bool
     }
 }
 
-/// Whether the mask `asked` has a bit for the line.
+/// Whether the mask `asked` has a bit for the line, from 0 to 11. Line 0 is the lowest bit.
 #[inline]
 fn is_asked(asked: u16, line: usize) -> bool
     requires { line < LINES }
@@ -142,8 +147,8 @@ fn is_asked(asked: u16, line: usize) -> bool
     asked >> line & 1 == 1
 }
 
-/// Returns the name of the part in which this name is seen: the same direction without its north or
-/// south, and the same level. A name without a direction has its own part.
+/// Returns the name for which the part is made in which this name is seen. It is the same direction
+/// without its north or south, at the same level. A name without a direction has its own part.
 fn name_of_part(name: Name) -> Name
     ensures { result ≡ part_name name }
 {
@@ -164,8 +169,8 @@ fn part_beside(compass: Compass) -> Compass
     }
 }
 
-/// Returns the first row of its part in which this name is seen: 0 to the north, 2 to the south,
-/// else 1.
+/// Returns the first of the part's rows, from 0, in which this name is seen: 0 if it looks to the
+/// north, 2 if to the south, else 1.
 fn seen_from(name: Name) -> usize
     ensures row { result ≡ seen_from name }
     ensures within { result ≤ 2 }

@@ -11,7 +11,8 @@ const EVEN_COLUMNS: u64 = 0xAAAA_AAAA_AAAA_AAAA;
 /// The odd columns of a word.
 const ODD_COLUMNS: u64 = 0x5555_5555_5555_5555;
 
-/// Returns a word with 1 in the right columns of the grid's blocks, and 0 in the left ones.
+/// Returns a word with 1 in the right columns of the grid's blocks, and 0 in the left ones. Column
+/// 0, the highest bit, is a left one on the even grid.
 #[inline]
 pub(crate) fn right_columns(grid: Grid) -> u64
     ensures { (c : ℕ) → c < 64 → word_column result c ≡ (side_in_block grid c == 1) }
