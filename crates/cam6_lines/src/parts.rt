@@ -390,9 +390,10 @@ fn put_from_lower<const W: usize>(
     }
 }
 
-/// Writes rows `j` and `j + 1` of `part`, the upper and the lower row of the same blocks: what the
-/// unit's cells see of plane `p` at this rotation in their blocks. Both rows are made before the
-/// first is written, to fetch what they look at once. Earlier rows stay. `j` is odd, from 1 to 15.
+/// Writes rows `j` and `j + 1` of `part`: what the unit's cells see of plane `p` at this rotation
+/// in their blocks. They have to be the upper and the lower row of the same blocks, with `j` from 1
+/// to 15. Both are made before the first is written, so that what they look at is fetched once.
+/// Earlier rows stay.
 #[inline(always)]
 fn write_block_rows<const W: usize>(
     part: &mut SeenRows,

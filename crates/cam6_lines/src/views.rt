@@ -169,8 +169,8 @@ fn part_beside(compass: Compass) -> Compass
     }
 }
 
-/// Returns the first of the part's rows, from 0, in which this name is seen: 0 if it looks to the
-/// north, 2 if to the south, else 1.
+/// Returns the first row of its part, counted from 0, in which this name is seen. It is 0 if the
+/// name looks to the north, 2 if to the south, else 1.
 fn seen_from(name: Name) -> usize
     ensures row { result ≡ seen_from name }
     ensures within { result ≤ 2 }
