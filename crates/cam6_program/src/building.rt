@@ -34,8 +34,8 @@ pub(crate) struct Diagram {
 }
 
 impl Diagram {
-    /// Returns the diagram that makes the two lowest bits of the entries from the lines, joined in
-    /// this order. Returns `TooLong` if it needs more choices than places.
+    /// Returns the diagram that makes the two lowest bits of the 4096 entries from the lines,
+    /// joined in this order. Returns `TooLong` if it needs more choices than places.
     pub(crate) fn of(entries: &[u8], order: Order) -> Result<Diagram, TooLong>
         requires { length entries.now ≡ 2 ^ LINES }
         ensures { IfOk result (λ diagram. diagram.count ≤ PLACES) }
@@ -56,7 +56,7 @@ impl Diagram {
     }
 
     /// Returns a diagram with the lines alone, and with `counters` places after them for the
-    /// operations that count lines.
+    /// operations that count lines. There have to be at most `PLACES` places in all.
     pub(crate) fn with_counters(counters: usize) -> Diagram
         requires { LINES + counters ≤ PLACES }
         ensures { result.count ≤ PLACES }
@@ -91,9 +91,9 @@ impl Diagram {
         self.upper = upper;
     }
 
-    /// Replaces each two neighbouring nodes by the node of the choice among them by `by`. Writes
-    /// these nodes to the first half of `nodes`. Returns `TooLong` if there are more choices than
-    /// places.
+    /// Replaces each two neighbouring nodes by the node of the choice among them by `by`, which
+    /// selects the second where it is 1. Writes these nodes to the first half of `nodes`. Returns
+    /// `TooLong` if there are more choices than places.
     pub(crate) fn join_pairs(&mut self, by: Node, nodes: &mut [Node]) -> Result<(), TooLong>
         requires { self.old.count ≤ PLACES }
         ensures { self.new.count ≤ PLACES }
@@ -121,8 +121,8 @@ impl Diagram {
         Ok(())
     }
 
-    /// Returns the node of a choice by the line that is being joined. Adds the choice if it is
-    /// needed and new. Returns `TooLong` if there is no place left.
+    /// Returns the node of a choice by the line that is being joined. Adds the choice, or its
+    /// inverse, if it is needed and new. Returns `TooLong` if there is no place left for it.
     fn node(&mut self, choice: Choice) -> Result<Node, TooLong>
         requires { self.old.count ≤ PLACES }
         ensures { self.new.count ≤ PLACES }
@@ -136,8 +136,9 @@ impl Diagram {
         self.place_choice(choice)
     }
 
-    /// Returns the node of a choice by the line that is being joined, whose `low` is no inverse.
-    /// Adds the choice if it is new. Returns `TooLong` if there is no place left.
+    /// Returns the node of a choice by the line that is being joined, whose `low` is no inverse. It
+    /// is the line's own node if the choice is that line. Adds the choice if it is new. Returns
+    /// `TooLong` if there is no place left for it.
     fn place_choice(&mut self, choice: Choice) -> Result<Node, TooLong>
         requires { self.old.count ≤ PLACES }
         ensures { self.new.count ≤ PLACES }

@@ -19,9 +19,9 @@ pub(crate) const COUNTERS: usize = 18;
 /// What the entries are chosen by, if the eight lines are counted: four lines, and the sum's bits.
 const COUNTED: usize = 1 << 8;
 
-/// Returns operation `place` of those that add the bits of lines 2 to 9. Each of four full adders
-/// is two exclusive ors and a choice, for the sum and the carry. Operations 9, 14, 16 and 17 make
-/// the bits of the whole sum, the lowest first.
+/// Returns operation `place`, from 0 to 17, of those that add the bits of lines 2 to 9. Each of
+/// four full adders is two exclusive ors and a choice, for the sum and the carry. Operations 9, 14,
+/// 16 and 17 make the bits of the whole sum, the lowest first.
 pub(crate) fn counter(place: usize) -> Operation {
     match place {
         0 => xor(line(2), line(3)),
@@ -45,20 +45,20 @@ pub(crate) fn counter(place: usize) -> Operation {
     }
 }
 
-/// Returns the source that reads a line.
+/// Returns the source that reads a line, numbered from 0.
 fn line(line: u8) -> Source {
     Source::Line(line)
 }
 
-/// Returns the source that reads what operation `place` of `counter` makes.
+/// Returns the source that reads what operation `place` of `counter`, from 0 to 17, makes.
 fn slot(place: usize) -> Source
     requires { place < COUNTERS }
 {
     node_of_operation(place).source()
 }
 
-/// Returns the node of operation `place` of `counter`. In the diagram the operations stand after
-/// the lines.
+/// Returns the node of operation `place` of `counter`, from 0 to 17. In the diagram the operations
+/// stand after the lines.
 pub(crate) fn node_of_operation(place: usize) -> Node
     requires { place < COUNTERS }
 {
@@ -75,7 +75,7 @@ fn choice(by: Source, low: Source, high: Source) -> Operation {
     Operation::Choice { by, low, high }
 }
 
-/// Whether the entries depend on lines 2 to 9 only by how many of these lines show 1.
+/// Whether the 4096 entries depend on lines 2 to 9 only by how many of these lines show 1.
 pub(crate) fn counts(entries: &[u8]) -> bool
     requires { length entries.now ≡ 2 ^ LINES }
 {
@@ -87,8 +87,8 @@ pub(crate) fn counts(entries: &[u8]) -> bool
     true
 }
 
-/// Whether the entries stay the same if two neighbouring lines are exchanged. `bit` is the value of
-/// the lower line in an address.
+/// Whether the 4096 entries stay the same if two neighbouring lines are exchanged. `bit` is the
+/// value of the lower line in an address: 2 to the power of its number.
 fn are_alike(entries: &[u8], bit: usize) -> bool
     requires { length entries.now ≡ 2 ^ LINES }
 {
@@ -102,8 +102,8 @@ fn are_alike(entries: &[u8], bit: usize) -> bool
     true
 }
 
-/// Returns the diagram of entries that depend on lines 2 to 9 only by how many of these lines show
-/// 1. Returns `TooLong` if it needs more choices than places.
+/// Returns the diagram of 4096 entries that depend on lines 2 to 9 only by how many of these lines
+/// show 1, as `counts` says. Returns `TooLong` if it needs more choices than places.
 pub(crate) fn counting_diagram(entries: &[u8]) -> Result<Diagram, TooLong>
     requires { length entries.now ≡ 2 ^ LINES }
     ensures { IfOk result (λ diagram. diagram.count ≤ PLACES) }
@@ -122,8 +122,8 @@ pub(crate) fn counting_diagram(entries: &[u8]) -> Result<Diagram, TooLong>
     Ok(diagram)
 }
 
-/// Returns the node by which round `k` joins the entries. Rounds 0 to 3 use lines 0, 1, 10 and 11.
-/// Rounds 4 to 7 use the bits of the sum, the lowest first.
+/// Returns the node by which round `k`, from 0 to 7, joins the entries. Rounds 0 to 3 use lines 0,
+/// 1, 10 and 11. Rounds 4 to 7 use the bits of the sum, the lowest first.
 fn chosen_by(k: usize) -> Node {
     match k {
         0 => Node::line(0),
@@ -148,7 +148,8 @@ fn counted_address(k: usize) -> usize
     (k % 4 + k / 4 % 4 * 1024 + with_ones(below)) % ENTRIES
 }
 
-/// Returns an address with this many ones on lines 2 to 9, and 0 on all other lines.
+/// Returns an address with this many ones, from 0 to 8, on lines 2 to 9, the lowest lines first.
+/// All other lines have 0.
 fn with_ones(ones: usize) -> usize
     ensures { result ≤ 1020 }
 {

@@ -33,14 +33,14 @@ impl Node {
         Node(byte & 1)
     }
 
-    /// Returns the node of a line.
+    /// Returns the node of a line, from 0 to 11.
     pub(crate) fn line(line: usize) -> Node
         requires { line < LINES }
     {
         Node::at(line)
     }
 
-    /// Returns the node at a place of the diagram.
+    /// Returns the node at a place of the diagram, counted from 0 and below `PLACES`.
     pub(crate) fn at(place: usize) -> Node
         requires { place < PLACES }
     {
@@ -59,13 +59,14 @@ impl Node {
         Node(self.0 ^ 1)
     }
 
-    /// Whether this node is the inverse of the node at a place, or the constant 1.
+    /// Whether this node is the inverse of the node at a place, or the constant 1. Its number is
+    /// odd then.
     pub(crate) fn is_inverse(self) -> bool {
         self.0 & 1 == 1
     }
 
-    /// Returns the source by which a step reads the node, as if each node had the slot of its own
-    /// number.
+    /// Returns the source by which a step reads the node: a constant, a line, or else a slot. Each
+    /// node is taken to have the slot of its own number, and so is a line's inverse.
     pub(crate) fn source(self) -> Source {
         if self.0 < FIRST {
             Source::Constant(self == ONE)

@@ -6,7 +6,8 @@ ghost use Rattle.cam6_lines.specs.declared.units.TheConstants.{UNIT};
 
 use cam6_lines::{UNIT, Unit};
 
-/// Writes `high` where `by` is 1, and `low` where it is 0, in the first `words` words of `out`.
+/// Writes the bits of `high` where `by` is 1, and those of `low` where it is 0, in the first
+/// `words` words of `out`.
 #[inline(always)]
 pub(crate) fn put_choice(out: &mut Unit, by: &Unit, low: &Unit, high: &Unit, words: usize)
     requires { words ≤ UNIT }
@@ -18,8 +19,8 @@ pub(crate) fn put_choice(out: &mut Unit, by: &Unit, low: &Unit, high: &Unit, wor
     }
 }
 
-/// Writes `high` inverted where `by` is 1, and `low` where it is 0, in the first `words` words of
-/// `out`.
+/// Writes the bits of `high` inverted where `by` is 1, and those of `low` where it is 0, in the
+/// first `words` words of `out`.
 #[inline(always)]
 pub(crate) fn put_choice_not(out: &mut Unit, by: &Unit, low: &Unit, high: &Unit, words: usize)
     requires { words ≤ UNIT }

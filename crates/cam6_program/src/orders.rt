@@ -16,7 +16,7 @@ pub(crate) enum Order {
 }
 
 impl Order {
-    /// Returns the line by which nodes are joined in round `level`. Rounds are counted from 0.
+    /// Returns the line by which nodes are joined in round `level`, from 0 to 11.
     pub(crate) fn line(self, level: usize) -> usize
         requires { level < LINES }
         ensures { result < LINES }
@@ -34,7 +34,8 @@ impl Order {
         }
     }
 
-    /// Returns the address with bit i of `k` on the line of round i, for each round.
+    /// Returns the address with bit i of `k` on the line of round i, for each round. `k` has to be
+    /// below 4096. Bit 0 is the lowest.
     pub(crate) fn address(self, k: usize) -> usize
         requires { k < ENTRIES }
         ensures { result < ENTRIES }

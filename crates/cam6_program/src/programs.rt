@@ -64,8 +64,8 @@ impl Program {
     ghost use Rattle.std.specs.Prelude.{Some, take, ◌-◌, ◌++◌, ◌∷◌, []};
     ghost use Rattle.cam6_program.specs.Computing.{Computes};
 
-    /// Returns a program that computes the entries, or `None` if it finds no short one. Does not
-    /// allocate.
+    /// Returns a program that computes the lowest two bits of all 4096 entries. Returns `None` if
+    /// it finds none that is short enough. Does not allocate.
     pub fn of(entries: &[u8]) -> Option<Program>
         requires { length entries.now ≡ 2 ^ LINES }
         ensures { IfSome result (λ program. Computes entries.now program) }
@@ -91,9 +91,9 @@ impl Program {
         work
     }
 
-    /// Makes a program of the first `count` steps. `asked` is the mask of the lines that it reads.
-    /// `lower` and `upper` are the sources of the new bits, and a level without a source is kept.
-    /// Nothing checks what the program computes.
+    /// Makes a program of the first `count` steps. Bit k of the mask `asked` is 1 if it reads line
+    /// k. `lower` and `upper` are the sources of the new bits, and a level without a source is
+    /// kept. Nothing checks what the program computes.
     pub(crate) fn new(
         steps: [Step; MAX_STEPS],
         count: usize,
@@ -119,7 +119,8 @@ impl Program {
         Program { ..*self }
     }
 
-    /// The mask of the lines that the program reads. A bit is 1 for each of these lines.
+    /// The mask of the lines that the program reads. Bit k, the lowest being bit 0, is 1 if it
+    /// reads line k.
     pub fn asked(&self) -> u16
         ensures { result ≡ self.now.asked }
     {
@@ -136,9 +137,10 @@ impl Program {
         }
     }
 
-    /// Writes the new bits of both levels to the first `words` words of `lower` and `upper`. Lines
-    /// that the program doesn't ask for must show 0. A level that the program keeps is not written.
-    /// The slots are scratch for what the steps make, and may hold anything before.
+    /// Writes the new bits of both levels to the first `words` words of `lower` and `upper`. The
+    /// words after may hold anything. Lines that the program doesn't ask for must show 0. A level
+    /// that the program keeps is not written. The slots are scratch for what the steps make, and
+    /// may hold anything before.
     pub fn run(
         &self,
         lines: &Lines,
@@ -196,8 +198,8 @@ fn reads_slot(source: Option<Source>) -> bool
     matches!(source, Some(Source::Slot(_)))
 }
 
-/// Returns the program with the least work of those that are tried for the entries, or `None` if
-/// none is short enough. Nothing checks yet that it computes the entries.
+/// Returns the program with the least work of those that are tried for the 4096 entries, or `None`
+/// if none is short enough. Nothing checks yet that it computes the entries.
 fn least_work(entries: &[u8]) -> Option<Program>
     requires { length entries.now ≡ 2 ^ LINES }
 {
@@ -215,8 +217,8 @@ fn least_work(entries: &[u8]) -> Option<Program>
     )
 }
 
-/// Returns the first program if it has less work than the second, and else the second. `None` has
-/// the most work.
+/// Returns the first program if it has less work than the second, and else the second, also if both
+/// have the same. `None` has the most work.
 fn lesser(first: Option<Program>, second: Option<Program>) -> Option<Program> {
     if work_or_most(&first) < work_or_most(&second) {
         first
@@ -225,7 +227,7 @@ fn lesser(first: Option<Program>, second: Option<Program>) -> Option<Program> {
     }
 }
 
-/// Returns the program of a diagram. Returns `None` if the diagram is too long, or needs too many
+/// Returns the program of a diagram. Returns `None` for `TooLong`, or if the program needs too many
 /// slots.
 fn program_of(diagram: Result<Diagram, TooLong>) -> Option<Program>
     requires { IfOk diagram (λ diagram. diagram.count ≤ PLACES) }

@@ -53,8 +53,8 @@ impl<'a> Readable<'a> {
         }
     }
 
-    /// Lends the unit of this slot. It is all zeros if no step has written the slot, or if the slot
-    /// is being written.
+    /// Lends the unit of this slot, numbered from 0. It is all zeros if no step has written the
+    /// slot, or if the slot is being written.
     fn slot(&self, slot: usize) -> &'a Unit
         ensures { (c : ℕ) → c < 64 * UNIT →
             column_bit result.now c ≡ slice_index_or (slots_at c self.now) slot false }
@@ -70,7 +70,7 @@ impl<'a> Readable<'a> {
     }
 }
 
-/// Lends the unit of this line, or a unit of zeros past the last line.
+/// Lends the unit of this line, numbered from 0, or a unit of zeros past the last line.
 fn shown<'a>(lines: &Lines<'a>, line: usize) -> &'a Unit
     ensures { (c : ℕ) → c < 64 * UNIT → column_bit result.now c ≡
         slice_index_or (at_column c (map (λ line. line.now) lines.now)) line false }
@@ -82,7 +82,7 @@ fn shown<'a>(lines: &Lines<'a>, line: usize) -> &'a Unit
     }
 }
 
-/// Writes the result of an operation to the first `words` words of `out`.
+/// Writes the result of an operation on what `from` has to the first `words` words of `out`.
 #[inline(always)]
 fn put_result(out: &mut Unit, operation: Operation, from: &Readable, words: usize)
     requires { words ≤ UNIT }
@@ -109,7 +109,7 @@ fn put_result(out: &mut Unit, operation: Operation, from: &Readable, words: usiz
 }
 
 /// Returns how many slots are written after a step into slot `into`, if `written` are before it. It
-/// is one more if the slot is the next one, and there is room for it.
+/// is one more if the slot is the next one, numbered `written`, and it is below `MAX_SLOTS`.
 #[inline(always)]
 fn written_after(written: usize, into: usize) -> usize
     requires { written ≤ MAX_SLOTS }
@@ -124,7 +124,8 @@ fn written_after(written: usize, into: usize) -> usize
 }
 
 /// Runs a step over the first `words` machine words of each unit. The first `written` slots hold
-/// what earlier steps made. Returns how many do after this step.
+/// what earlier steps made. Returns how many do after this step. A slot past these and the next one
+/// is not written.
 #[inline(always)]
 fn run_step(
     step: Step,
@@ -146,8 +147,8 @@ fn run_step(
     written
 }
 
-/// Writes what a step makes to its slot, whatever that holds. If the slot isn't among `slots`,
-/// writes nothing.
+/// Writes what a step makes to its slot, in the first `words` machine words, whatever the slot
+/// holds. If the slot isn't among `slots`, writes nothing.
 #[inline(always)]
 fn write_slot(step: Step, lines: &Lines, slots: &mut [Unit], words: usize)
     requires { words ≤ UNIT }
@@ -162,8 +163,9 @@ fn write_slot(step: Step, lines: &Lines, slots: &mut [Unit], words: usize)
     }
 }
 
-/// Writes the result of an operation to the first of `slots`. The operation can read the slots
-/// `before`, and those after the first.
+/// Writes the result of an operation to the first of `slots`, of which there has to be one. The
+/// operation can read the slots `before`, and those after the first. Slots are numbered from the
+/// first of `before` on.
 #[inline(always)]
 fn write_first(
     slots: &mut [Unit],
@@ -191,8 +193,8 @@ fn write_first(
 
 /// Runs all steps in order over the first `words` machine words of each unit, and returns how many
 /// slots they wrote. The slots may hold anything before. Then writes to `out` what `last` would
-/// make of its slot, if there is one. For whole units and for halves the compiler knows the number
-/// of words, which makes the loops over them a third shorter.
+/// make of its slot, if there is one. For whole units and for halves the compiler knows `words`,
+/// which makes the loops over them a third shorter.
 pub(crate) fn run_steps(
     out: &mut Unit,
     steps: &[Step],
@@ -306,7 +308,8 @@ fn run_all_steps(
 }
 
 /// Writes to `out` what a step would make of its slot, and changes no slot. The first `written`
-/// slots hold what earlier steps made.
+/// slots hold what earlier steps made. Writes 0 if the step's slot is neither one of these nor the
+/// next.
 #[inline(always)]
 fn put_step_result(
     out: &mut Unit,
@@ -337,8 +340,8 @@ fn put_step_result(
     }
 }
 
-/// Copies the unit that a source reads to `out`. `slots` are those that it may read. Without a
-/// source, `out` stays as it was.
+/// Copies the whole unit that a source reads to `out`. `slots` are those that it may read, and
+/// others read as 0. Without a source, `out` stays as it was.
 pub(crate) fn write_source(out: &mut Unit, source: Option<Source>, lines: &Lines, slots: &[Unit])
     ensures { IfSome source (λ source. (c : ℕ) → c < 64 * UNIT → column_bit out.new c ≡
         read (at_column c (map (λ line. line.now) lines.now)) (at_column c slots.now) source) }

@@ -20,7 +20,7 @@ use crate::slots::Slots;
 use cam6_lines::{UNIT, Unit};
 use cam6_wiring::{LINES, Level};
 
-/// Whether the program computes the entries.
+/// Whether the program computes the lowest two bits of all 4096 entries.
 pub(crate) fn agrees(program: &Program, entries: &[u8]) -> bool
     requires { length entries.now ≡ 2 ^ LINES }
     ensures { IsTrue result → Computes entries.now program.now }
@@ -29,8 +29,8 @@ pub(crate) fn agrees(program: &Program, entries: &[u8]) -> bool
     has_entries(&lower, &upper, entries)
 }
 
-/// Whether `lower` has the lowest bits of all entries, and `upper` the next bits. Each address has
-/// its column.
+/// Whether `lower` has the lowest bits of all 4096 entries, and `upper` the next bits. Each address
+/// has its column.
 fn has_entries(lower: &Unit, upper: &Unit, entries: &[u8]) -> bool
     requires { length entries.now ≡ 2 ^ LINES }
     ensures lower { IsTrue result → (address : ℕ) → address < 2 ^ LINES →
@@ -48,7 +48,7 @@ fn has_entries(lower: &Unit, upper: &Unit, entries: &[u8]) -> bool
 }
 
 /// Returns the lowest bits of the 64 entries from entry 64 times `word` on, and then their next
-/// bits.
+/// bits. The first entry has column 0, the highest bit.
 fn packed(entries: &[u8], word: usize) -> (u64, u64)
     requires entries { length entries.now ≡ 2 ^ LINES }
     requires word { word < UNIT }
@@ -68,7 +68,7 @@ fn packed(entries: &[u8], word: usize) -> (u64, u64)
 }
 
 /// Returns the word moved one column to the west, with the lowest bit of an entry in its last
-/// column.
+/// column. That is the lowest bit of the word.
 fn with_last(word: u64, entry: u8) -> u64
     ensures last { word_column result 63 ≡ (bit_at entry 0 == 1) }
     ensures others { (c : ℕ) → c < 63 → word_column result c ≡ word_column word (c + 1) }
@@ -93,8 +93,9 @@ fn made_at_addresses(program: &Program) -> (Unit, Unit)
     )
 }
 
-/// Returns `made`, which the program made of a level. If the program keeps the level, returns the
-/// cells' own bits instead.
+/// Returns `made`, the bits that the program made of a level at each address. If the program keeps
+/// the level, returns the cells' own bits instead: line 0 for the lower level, line 1 for the
+/// upper.
 fn kept_or(program: &Program, level: Level, made: Unit) -> Unit
     requires { keeps level program.now ≡ false → MakesAtAddresses level program.now made }
     ensures { MakesAtAddresses level program.now result }
@@ -108,8 +109,8 @@ fn kept_or(program: &Program, level: Level, made: Unit) -> Unit
     }
 }
 
-/// Returns the lines on which each column shows its own number as its address. Lines that are not
-/// in the mask `asked` show 0.
+/// Returns the lines, line 0 first, on which each column shows its own number as its address. Lines
+/// that are not in the mask `asked` show 0.
 fn asked_lines(asked: u16) -> [Unit; LINES]
     ensures { (bits : List Bool) → length bits ≡ LINES →
         at_column (number_of bits) result ≡ asked_for asked bits }
@@ -121,8 +122,8 @@ fn asked_lines(asked: u16) -> [Unit; LINES]
     lines
 }
 
-/// Returns one line, on which each column shows this line's bit of its own number. Returns zeros if
-/// the line is not in the mask `asked`.
+/// Returns one line, from 0 to 11, on which each column shows this line's bit of its own number.
+/// Returns zeros if the line is not in the mask `asked`. Line 0 is the lowest bit.
 fn asked_line(asked: u16, line: usize) -> Unit
     requires { line < LINES }
     ensures { (address : ℕ) → address < 2 ^ LINES →
@@ -135,7 +136,8 @@ fn asked_line(asked: u16, line: usize) -> Unit
     }
 }
 
-/// Returns the line on which each column shows this line's bit of its own number.
+/// Returns the line, from 0 to 11, on which each column shows this line's bit of its own number.
+/// Line 0 is the lowest bit.
 fn address_line(line: usize) -> Unit
     requires { line < LINES }
     ensures { (address : ℕ) → address < 2 ^ LINES → column_bit result address ≡ shown address line }
@@ -157,7 +159,8 @@ const LOW_LINES: [u64; 6] = [
     0x0000_0000_FFFF_FFFF,
 ];
 
-/// Returns word `word` of the line on which each column shows this line's bit of its own number.
+/// Returns word `word`, from 0 to 63, of the line on which each column shows this line's bit of its
+/// own number. Line 0 is the lowest bit.
 fn address_word(line: usize, word: usize) -> u64
     requires line { line < LINES }
     requires word { word < UNIT }

@@ -19,7 +19,8 @@ pub(crate) struct Wanted {
 }
 
 impl Wanted {
-    /// Returns which nodes have to be made, so that the levels of a diagram can be read.
+    /// Returns which nodes have to be made, so that both levels of a diagram can be read. The
+    /// lines' nodes are among them.
     pub(crate) fn of(diagram: &Diagram) -> Wanted
         requires { diagram.now.count ≤ PLACES }
     {
@@ -49,8 +50,9 @@ impl Wanted {
         self.either[node.number()] = true;
     }
 
-    /// Notes what is read to make the node of a choice, or its inverse, or both. What reads these
-    /// two has been noted before. If either will do, the node itself is made.
+    /// Notes what is read to make the node of a choice, or its inverse, or both, as far as they are
+    /// wanted. What reads these two must have been noted before. If either will do, the node itself
+    /// is made unless its inverse is.
     fn note_place(&mut self, node: Node, choice: Choice) {
         let own = node.number();
         let other = node.inverse().number();
@@ -65,7 +67,7 @@ impl Wanted {
         }
     }
 
-    /// Notes what the operation of a choice reads.
+    /// Notes what the operation of a choice reads besides its `by`, which is made anyway.
     fn note_reads(&mut self, choice: Choice) {
         let Choice { low, high, .. } = choice;
         if low == high.inverse() || high == ZERO {

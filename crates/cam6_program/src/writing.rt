@@ -32,7 +32,7 @@ struct Writer {
     slots: usize,
 }
 
-/// Returns the program of a diagram, or `None` if it needs too many slots.
+/// Returns the program of a diagram, or `None` if it needs more than `MAX_SLOTS` slots.
 pub(crate) fn write_program(diagram: &Diagram) -> Option<Program>
     requires { diagram.now.count ≤ PLACES }
 {
@@ -48,14 +48,16 @@ pub(crate) fn write_program(diagram: &Diagram) -> Option<Program>
     writer.program(lower, upper)
 }
 
-/// Returns the source from which a level is read. Returns `None` if it is `own`, the source of the
-/// cells' own bits: then the level is kept.
+/// Returns the source from which a level is read, by node and not yet by slot. Returns `None` if it
+/// is `own`, the source of the cells' own bits: then the level is kept.
 fn source_of_level(node: Node, own: Source) -> Option<Source> {
     let source = node.source();
     if source == own { None } else { Some(source) }
 }
 
-/// Returns the operation that makes each node of a diagram, by the node's number.
+/// Returns the operation that makes each node of a diagram, by the node's number. It reads other
+/// nodes as slots of their numbers. A number that is no node of the diagram has an operation
+/// without use.
 fn operations(diagram: &Diagram) -> [Operation; NODES]
     requires { diagram.now.count ≤ PLACES }
 {
@@ -92,8 +94,8 @@ impl Writer {
         }
     }
 
-    /// Notes that a level's source will be read at the end. Without a source there is nothing to
-    /// note.
+    /// Notes that a level's source, by node, will be read at the end. Without a source there is
+    /// nothing to note.
     fn expect_level(&mut self, level: Option<Source>)
         ensures { self.new.count ≡ self.old.count }
     {
@@ -117,7 +119,8 @@ impl Writer {
         }
     }
 
-    /// Notes that a source will be read once more.
+    /// Notes that a source will be read once more. Only a source that is a node counts: constants
+    /// and lines need no slot.
     fn expect(&mut self, source: Source)
         ensures { self.new.count ≡ self.old.count }
     {
@@ -128,7 +131,8 @@ impl Writer {
     }
 
     /// Writes the steps of the first `counters` operations that count lines, in their order, which
-    /// needs the fewest slots. Leaves out those that nothing reads.
+    /// needs the fewest slots. Leaves out those that nothing reads, and those past `MAX_STEPS`
+    /// steps.
     fn write_counters(&mut self, counters: usize)
         requires { self.old.count ≤ MAX_STEPS }
         ensures { self.new.count ≤ MAX_STEPS }
@@ -142,7 +146,7 @@ impl Writer {
     }
 
     /// Writes the steps of the node that a level is read from. Returns the level's source, with the
-    /// node replaced by its slot, or `None` without a source.
+    /// node replaced by its slot. Returns `None` without a source.
     fn write_level(&mut self, level: Option<Source>) -> Option<Source>
         requires { self.old.count ≤ MAX_STEPS }
         ensures { self.new.count ≤ MAX_STEPS }
@@ -155,7 +159,7 @@ impl Writer {
     }
 
     /// Writes the step of node `number`, after those of all nodes that it reads. Writes nothing if
-    /// the step is written already.
+    /// the step is written already, or if there are `MAX_STEPS` steps.
     fn write_node(&mut self, number: usize)
         requires number { number < NODES }
         requires count { self.old.count ≤ MAX_STEPS }
@@ -177,8 +181,9 @@ impl Writer {
         }
     }
 
-    /// Adds the step of node `number` to the program. Picks a free slot for it. The slots that it
-    /// reads are not yet free then.
+    /// Adds the step of node `number` to the program, which has to have fewer than `MAX_STEPS`.
+    /// Picks a free slot for it. The slots that it reads are not yet free then. Afterwards those
+    /// that nothing else reads are.
     fn put_step(&mut self, number: usize, operation: Operation)
         requires number { number < NODES }
         requires count { self.old.count < MAX_STEPS }
@@ -223,7 +228,8 @@ impl Writer {
         }
     }
 
-    /// Returns the operation with each node that it reads replaced by the node's slot.
+    /// Returns the operation with each node that it reads replaced by the node's slot, or by slot
+    /// 255 if it has none yet.
     fn in_slots(&self, operation: Operation) -> Operation {
         match operation {
             Operation::Choice { by, low, high } => Operation::Choice {
@@ -254,7 +260,7 @@ impl Writer {
         }
     }
 
-    /// Returns the source with a node replaced by its slot.
+    /// Returns the source with a node replaced by its slot, or by slot 255 if it has none yet.
     fn in_slot(&self, source: Source) -> Source {
         match source {
             Source::Slot(number) => {
@@ -264,8 +270,8 @@ impl Writer {
         }
     }
 
-    /// Returns the program whose levels are read from these sources. Returns `None` if it needs
-    /// more than `MAX_SLOTS` slots. A level without a source is kept.
+    /// Returns the program whose levels are read from these sources, by slot. Returns `None` if it
+    /// needs more than `MAX_SLOTS` slots. A level without a source is kept.
     fn program(self, lower: Option<Source>, upper: Option<Source>) -> Option<Program>
         requires { self.count ≤ MAX_STEPS }
     {
@@ -283,7 +289,8 @@ impl Writer {
     }
 }
 
-/// Returns the mask of the line that a source reads, or 0 if it reads no line.
+/// Returns the mask with the bit of the line that a source reads, or 0 if it reads no line. Line 0
+/// is the lowest bit.
 fn asked_by(source: Option<Source>) -> u16 {
     match source {
         Some(Source::Line(line)) => 1 << (line & 15),
