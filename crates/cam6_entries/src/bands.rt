@@ -37,7 +37,7 @@ pub struct Written {
 const ALL_LINES: u16 = 4095;
 
 /// Returns the mask of the lines that new rows are made of: those for which the program asks, or
-/// all lines without a program.
+/// all twelve lines without a program. Line 0 is the lowest bit.
 pub(crate) fn asked_by(program: &Option<Program>) -> u16
     ensures { result ≡ asked_by program.now }
 {
@@ -48,10 +48,10 @@ pub(crate) fn asked_by(program: &Option<Program>) -> u16
 }
 
 impl Table {
-    /// Writes the new rows of both planes of a half, for the sixteen rows of a band. Each cell gets
-    /// its bit of the entry at its address. Returns which planes are written: a plane in which
-    /// every cell keeps its bit may stay unwritten. Words past the side may hold anything. So may
-    /// the scratch before.
+    /// Writes the new rows of both planes of a half, for the sixteen rows of a band, which has to
+    /// lie in its planes. Each cell gets its bit of the entry at its address. Returns which planes
+    /// are written: a plane in which every cell keeps its bit may stay unwritten. Words past the
+    /// side may hold anything. So may the scratch before.
     pub fn band(
         &self,
         scratch: &mut TableScratch,
@@ -98,7 +98,8 @@ impl Table {
 }
 
 /// Writes the new rows of both planes under a plan's wiring: by the program, or by look-ups without
-/// a program. Returns which planes are written.
+/// a program. Returns which planes are written. The plan has to be for the lines of
+/// `asked_by(program)`, and the program has to compute the 4096 entries under its wiring.
 fn write_by_plan(
     scratch: &mut TableScratch,
     entries: &[u8],
@@ -141,8 +142,9 @@ fn write_by_plan(
     }
 }
 
-/// Writes the new rows of both planes unit by unit, by look-ups in the entries. It is not inlined:
-/// its own room on the stack is emptied when it is entered, and a program does not need it.
+/// Writes the new rows of both planes unit by unit, by look-ups in the 4096 entries. The plan has
+/// to be for all twelve lines. It is not inlined: its own room on the stack is emptied when it is
+/// entered, and a program does not need it.
 #[inline(never)]
 fn write_by_look_ups(
     scratch: &mut UnitLines,
@@ -173,7 +175,7 @@ fn write_by_look_ups(
 }
 
 /// Writes the new rows by a program. Returns which planes are written. A plane in which the program
-/// keeps every bit is not written.
+/// keeps every bit is not written. The plan has to be for the lines for which the program asks.
 fn write_by_program(
     scratch: &mut TableScratch,
     program: &Program,
@@ -204,7 +206,7 @@ fn write_by_program(
 }
 
 /// Writes the new rows by a program, one unit after the other. A plane in which the program keeps
-/// every bit is not written.
+/// every bit is not written. The plan has to be for the lines for which the program asks.
 fn write_by_units(
     scratch: &mut TableScratch,
     program: &Program,
@@ -236,7 +238,8 @@ fn write_by_units(
     }
 }
 
-/// Returns row `r` of a band, whose rows lie unit by unit. Words past the side may hold anything.
+/// Returns row `r` of a band, from 0 to 15, whose rows lie unit by unit. Words past the side may
+/// hold anything.
 #[inline(always)]
 pub fn row_of(units: &BandRows, side: Side, r: usize) -> Row
     requires { r < height }

@@ -12,7 +12,8 @@ use cam6_program::Program;
 use cam6_wiring::Hood;
 
 /// Returns a program that makes the lowest two bits of the entry at each address that a cell can
-/// have under this neighbourhood. Returns `None` if it finds no short one. Does not allocate.
+/// have under this neighbourhood. There have to be 4096 entries. Returns `None` if it finds none
+/// that is short enough. Does not allocate.
 pub(crate) fn program_under(entries: &[u8], hood: Hood) -> Option<Program>
     requires { length entries.now ≡ addresses }
     ensures { IfSome result (λ program. (minor : Minor) →
@@ -26,8 +27,8 @@ pub(crate) fn program_under(entries: &[u8], hood: Hood) -> Option<Program>
     }
 }
 
-/// Returns entries that don't depend on lines 8 and 9. Each is the entry at the address with 0 on
-/// these lines.
+/// Returns 4096 entries that don't depend on lines 8 and 9. Each is the one of these 4096 entries
+/// at its address with 0 on these lines.
 fn without_lines_8_and_9(entries: &[u8]) -> [u8; 4096]
     requires { length entries.now ≡ addresses }
     ensures { (address : ℕ) → address < addresses →

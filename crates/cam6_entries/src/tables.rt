@@ -50,7 +50,8 @@ impl Table {
     ghost use Rattle.cam6_wiring.specs.declared.names.Level.TheVariants.{Lower, Upper};
     ghost use Rattle.cam6_entries.specs.NewBits.{bit_for};
 
-    /// Allocates a table with every entry 0.
+    /// Allocates a table with every entry 0 and without a program. Returns `NoMemory` if the
+    /// allocation fails.
     pub fn blank(alloc: Global) -> Result<Table, NoMemory>
         ensures { IfOk result (λ table. table ≡ replicate ENTRIES 0) }
     {
@@ -71,7 +72,7 @@ impl Table {
         ENTRIES
     }
 
-    /// Returns the entry at an address.
+    /// Returns the entry at an address, from 0 to 4095.
     pub fn at(&self, address: u16) -> u8
         requires { address < ENTRIES }
         ensures { result ≡ slice_index self.now address }
@@ -79,8 +80,8 @@ impl Table {
         self.entries[usize::from(address)]
     }
 
-    /// Writes the entry at an address, and removes the table's program if there is one. A cell gets
-    /// only the entry's two lowest bits.
+    /// Writes the entry at an address, from 0 to 4095, and removes the table's program if there is
+    /// one. A cell gets only the entry's two lowest bits.
     pub fn put(&mut self, address: u16, entry: u8)
         requires { address < ENTRIES }
         ensures { self.new ≡ slice_set self.old address entry }
@@ -93,8 +94,9 @@ impl Table {
         }
     }
 
-    /// Writes both planes' new rows. At each column a plane gets its bit of the entry at the
-    /// address that the lines show there. Words past the side may hold anything.
+    /// Writes both planes' new rows. At each column, `lower` gets bit 0, the lowest, and `upper`
+    /// bit 1 of the entry at the address that the lines show there. Line k is bit k of the address.
+    /// Words past the side may hold anything.
     pub fn look_up(&self, lower: &mut Row, upper: &mut Row, lines: &Lines, side: Side)
         ensures lower { (x : ℕ) → x < side_number side → column_bit lower.new x
             ≡ bit_for Lower (slice_index self.now (address_in lines.now x)) }
