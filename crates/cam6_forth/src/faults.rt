@@ -29,7 +29,7 @@ pub(crate) enum TokenFault {
 impl TokenFault {
     ghost use Rattle.cam6_forth.specs.Limits.{fault_number};
 
-    /// The fault's number in replies, from 20 to 28.
+    /// The fault's number in replies, from 20 to 28, in the order of the variants.
     pub(crate) fn number(self) -> u8
         ensures { result ≡ fault_number self }
     {

@@ -36,7 +36,8 @@ pub(crate) enum Kind {
     Other,
 }
 
-/// Returns the kind of a token. Empty or unknown tokens are `Other`, and so are digits with a sign.
+/// Returns the kind of a token. Reserved tokens count only in capitals. Empty or unknown tokens are
+/// `Other`, and so are digits with a sign. Digits whose value is above 65,535 are `Digits(None)`.
 #[tactic(auto, unfolding(crate::specs::Kinds::kind_of))]
 pub(crate) fn kind_of(token: &[u8]) -> Kind
     ensures { result ≡ kind_of token.now }
@@ -63,8 +64,8 @@ pub(crate) fn ends_comment(token: &[u8]) -> bool
     !token.is_empty() && token[token.len() - 1] == b')'
 }
 
-/// Returns the kind of a token that is a mark, IF, ELSE or THEN. Returns `None` for any other
-/// token.
+/// Returns the kind of a token that is one of `:`, `;`, `(`, `)`, `{` and `}`, or IF, ELSE or THEN
+/// in capitals. Returns `None` for any other token.
 #[tactic(auto, unfolding(crate::specs::Kinds::mark))]
 fn mark(token: &[u8]) -> Option<Kind>
     ensures { result ≡ mark token.now }
@@ -83,7 +84,7 @@ fn mark(token: &[u8]) -> Option<Kind>
     }
 }
 
-/// Whether a token is decimal digits alone. An empty token isn't.
+/// Whether a token is ASCII decimal digits alone. An empty token isn't.
 fn is_digits(token: &[u8]) -> bool
     ensures { result ≡ is_digits token.now }
 {
@@ -95,7 +96,8 @@ fn is_digits(token: &[u8]) -> bool
     !token.is_empty()
 }
 
-/// Returns the value of decimal digits, or `None` if it is above the largest literal.
+/// Returns the value of decimal digits, or `None` if it is above 65,535. The token has to be digits
+/// alone.
 #[tactic(auto, using(crate::proofs::Values::digit_steps), unfolding(crate::specs::Kinds::literal))]
 fn literal(digits: &[u8]) -> Option<u16>
     requires digits { is_digits digits.now ≡ true }

@@ -42,7 +42,8 @@ impl OpenIfs {
         self.len
     }
 
-    /// Adds an open IF, inside the others. `has_else` says whether its ELSE has been read.
+    /// Adds an open IF, inside the others. `has_else` says whether its ELSE has been read. Fewer
+    /// than `MAX_OPEN_IFS` have to be open before.
     pub(crate) fn push(&mut self, has_else: bool)
         requires fits { length self.old < MAX_OPEN_IFS }
         ensures { self.new ≡ has_else ∷ self.old }
@@ -51,7 +52,8 @@ impl OpenIfs {
         self.len += 1;
     }
 
-    /// Removes the innermost open IF, and returns whether its ELSE has been read.
+    /// Removes the innermost open IF, and returns whether its ELSE has been read. At least one has
+    /// to be open.
     pub(crate) fn pop(&mut self) -> bool
         requires not_empty { 0 < length self.old }
         ensures { self.old ≡ result ∷ self.new }

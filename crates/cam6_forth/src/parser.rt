@@ -18,8 +18,9 @@ use crate::tokens::first_token;
 use cam6_wiring::{Half, Hood, Minor, Wiring};
 use std::alloc::Global;
 
-/// Reads a text as a rule for this half, neighbourhood and minor assignment. Returns the rule, the
-/// text's first fault, or `NoMemory` if an allocation fails.
+/// Reads a text as a rule for this half, neighbourhood and minor assignment. Returns the rule, or
+/// in `Text` the first fault with its number and its token. Returns `NoMemory` if an allocation
+/// fails. Tokens are numbered from 1, and a text of more than 8192 bytes has its fault at token 0.
 pub fn parse(
     alloc: Global,
     text: &str,
@@ -46,8 +47,9 @@ pub fn parse(
     parse_under(alloc, text, Wiring { half, hood, minor })
 }
 
-/// Reads a text as a rule for this wiring. Returns the rule, the text's first fault, or `NoMemory`
-/// if an allocation fails.
+/// Reads a text as a rule for this wiring. Returns the rule, or in `Text` the first fault with its
+/// number and its token. Returns `NoMemory` if an allocation fails. Tokens are numbered from 1, and
+/// a text of more than 8192 bytes has its fault at token 0.
 pub fn parse_under(alloc: Global, text: &str, wiring: Wiring) -> Result<Rule, ParseFault>
     // An accepted text is the tree of the rule, and a refused one has the fault.
     ensures accepted { IsAccepted wiring text.now result }
@@ -66,8 +68,9 @@ pub fn parse_under(alloc: Global, text: &str, wiring: Wiring) -> Result<Rule, Pa
     read_text(alloc, text, wiring)
 }
 
-/// Reads a text as a rule for this wiring. Returns the rule, the text's first fault, or `NoMemory`.
-/// A text that is too long has its fault at token 0, and nothing of it is read.
+/// Reads a text as a rule for this wiring. Returns the rule, the text's first fault, or `NoMemory`
+/// if an allocation fails. A text of more than `MAX_TEXT` bytes has its fault at token 0, and
+/// nothing of it is read. A fault of the end is one token after the last.
 #[tactic(auto, unfolding(crate::specs::Reading::read_text))]
 fn read_text(alloc: Global, text: &str, wiring: Wiring) -> Result<Rule, ParseFault>
     ensures exact { IsReadAs (read_text wiring text.now) wiring result }
@@ -94,8 +97,8 @@ fn read_text(alloc: Global, text: &str, wiring: Wiring) -> Result<Rule, ParseFau
     }
 }
 
-/// Returns the fault of a text at a token. Tokens are numbered from 1. Token 0 stands for a text
-/// that is too long.
+/// Returns the fault of a text at a token. Tokens are numbered from 1, and the end of the text
+/// counts as one more. Token 0 stands for a text that is too long.
 fn text_fault(fault: TokenFault, token: u32) -> ParseFault
     ensures { result ≡ Text (record { number = fault_number fault; token = token }) }
 {

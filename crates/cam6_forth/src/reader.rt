@@ -79,7 +79,8 @@ impl Reader {
         }
     }
 
-    /// Reads one more token. Returns the token's fault, or `NoMemory` if an allocation fails.
+    /// Reads one more token. Returns the token's fault, or `NoMemory` if an allocation fails. A
+    /// token of a comment has no fault.
     pub(crate) fn advance(&mut self, wiring: Wiring, token: &[u8]) -> Result<(), AdvanceFault>
         ensures state { Steps (advance wiring self.old token.now) self.new result }
         // Memory can run out only at a definition's name and in a body.
@@ -101,7 +102,8 @@ impl Reader {
         }
     }
 
-    /// Ends the text. Returns its definitions, or the fault of its end.
+    /// Ends the text. Returns its definitions in their order. Returns `OutOfPlace` if a comment or
+    /// a definition is still open, or `NoDefinition` if there is none.
     pub(crate) fn finish(self) -> Result<Vec<Definition>, TokenFault>
         ensures { Finishes (finish self) result }
     {
@@ -115,7 +117,8 @@ impl Reader {
     }
 
     /// Reads a token outside definitions: `:` begins a definition, and `(` a comment. Any other
-    /// token is `OutOfPlace`. After `MAX_DEFINITIONS` definitions a `:` is `TooLong`.
+    /// token is `OutOfPlace`. After `MAX_DEFINITIONS` definitions a `:` is `TooLong`. Never returns
+    /// `NoMemory`.
     fn read_outside(&mut self, kind: Kind) -> Result<(), AdvanceFault>
         ensures state { Steps (outside self.old kind) self.new result }
         ensures memory { result ≢ Err NoMemory }
@@ -137,7 +140,8 @@ impl Reader {
     }
 
     /// Reads the name of a definition, and begins its body. A reserved token or a name that is
-    /// already defined is `NotDefinable`.
+    /// already defined is `NotDefinable`. Digits alone are reserved too. Returns `NoMemory` if an
+    /// allocation fails.
     fn read_name(&mut self, kind: Kind, token: &[u8]) -> Result<(), AdvanceFault>
         ensures state { Steps (naming self.old kind token.now) self.new result }
         ensures memory { result ≡ Err NoMemory →
@@ -155,7 +159,7 @@ impl Reader {
     }
 
     /// Reads a token of a body, outside braces. It may be `;`, `(`, `{`, IF, ELSE, THEN or a single
-    /// word. Returns the token's fault, or `NoMemory`.
+    /// word. Returns the token's fault, or `NoMemory` if an allocation fails.
     fn read_in_body(&mut self, wiring: Wiring, kind: Kind, token: &[u8]) -> Result<(), AdvanceFault>
         ensures { Steps (inside wiring self.old kind token.now) self.new result }
     {
@@ -181,6 +185,7 @@ impl Reader {
 
     /// Reads a token between a body's braces. `(` opens a comment, `}` ends the cases, and any
     /// other token has to be a single word. Each of these words counts one more than its size.
+    /// Returns the token's fault, or `NoMemory` if an allocation fails.
     fn read_in_braces(
         &mut self,
         wiring: Wiring,
@@ -206,8 +211,8 @@ impl Reader {
         }
     }
 
-    /// Opens an IF inside those that are open. Returns `TooManyIfs` if `MAX_OPEN_IFS` are open, or
-    /// `TooLarge` if the definition gets too large.
+    /// Opens an IF inside those that are open. Returns `TooManyIfs` if `MAX_OPEN_IFS` are open,
+    /// `TooLarge` if the definition gets too large, or `NoMemory` if an allocation fails.
     fn open_if(&mut self) -> Result<(), AdvanceFault>
         ensures { Steps (with_if self.old) self.new result }
     {
@@ -219,7 +224,8 @@ impl Reader {
     }
 
     /// Reads the ELSE of the innermost open IF. The ELSE is `OutOfPlace` if no IF is open, or if
-    /// this one has an ELSE already.
+    /// this one has an ELSE already. It is `TooLarge` if the definition gets too large. Returns
+    /// `NoMemory` if an allocation fails.
     fn read_else(&mut self) -> Result<(), AdvanceFault>
         ensures { Steps (with_else self.old.open_ifs self.old) self.new result }
     {
@@ -230,7 +236,8 @@ impl Reader {
         self.grow(1, Word::Else)
     }
 
-    /// Reads a THEN, which closes the innermost open IF. The THEN is `OutOfPlace` if no IF is open.
+    /// Reads a THEN, which closes the innermost open IF and adds nothing to the size. The THEN is
+    /// `OutOfPlace` if no IF is open. Returns `NoMemory` if an allocation fails.
     fn close_if(&mut self) -> Result<(), AdvanceFault>
         ensures { Steps (with_then self.old.open_ifs self.old) self.new result }
     {
@@ -243,7 +250,7 @@ impl Reader {
     }
 
     /// Reads a `;`, which ends the definition and adds it to the others. The `;` is `OutOfPlace` if
-    /// an IF is open.
+    /// an IF is open. Returns `NoMemory` if an allocation fails.
     fn end_definition(&mut self) -> Result<(), AdvanceFault>
         ensures { Steps (with_definition self.old.open_ifs self.old) self.new result }
     {
@@ -258,8 +265,8 @@ impl Reader {
         Ok(())
     }
 
-    /// Adds a word to the body, and this size to the definition's size. If the definition gets too
-    /// large, returns `TooLarge` and adds nothing.
+    /// Adds a word to the body, and this size to the definition's size. If that gets above
+    /// `MAX_SIZE`, returns `TooLarge` and adds nothing. Returns `NoMemory` if an allocation fails.
     fn grow(&mut self, size: u32, word: Word) -> Result<(), AdvanceFault>
         ensures { Steps (grown size word self.old) self.new result }
     {
@@ -273,7 +280,8 @@ impl Reader {
     }
 
     /// Returns the single word that a token of this kind is, and how much it adds to a definition's
-    /// size outside braces. Returns the token's fault if it is no single word.
+    /// size outside braces. Returns `LiteralRange`, `OtherHalf`, `UnknownWord` (also for a name
+    /// that the wiring lacks), or `OutOfPlace` if it can't be a single word.
     fn single_word_of(
         &self,
         wiring: Wiring,
@@ -311,8 +319,8 @@ impl Reader {
     }
 }
 
-/// Returns the index of the first definition whose name is this token, and its size. Returns `None`
-/// if there is none.
+/// Returns the index, from 0, of the first definition whose name is this token, and its size.
+/// Returns `None` if there is none.
 fn definition_at(token: &[u8], definitions: &[Definition]) -> Option<(usize, u16)>
     ensures { result ≡ definition_at token.now definitions.now }
 {

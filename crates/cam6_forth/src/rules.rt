@@ -43,7 +43,8 @@ impl Model for Rule {
 impl Rule {
     ghost use Rattle.cam6_forth.specs.Tree.{IsOfTree};
 
-    /// Makes the rule of these definitions. They must be those of a well-formed tree.
+    /// Makes the rule of these definitions, the last of which is the rule itself. They must be
+    /// those of a well-formed tree for this wiring.
     pub(crate) fn new(wiring: Wiring, definitions: Vec<Definition>) -> Rule
         requires definitions { IsOfTree
             (record { wiring = wiring; definitions = definitions.items }) }
@@ -62,7 +63,7 @@ impl Rule {
         self.wiring
     }
 
-    /// The definitions in their order. The last one is the rule itself.
+    /// The definitions in their order, at least one. The last one is the rule itself.
     pub fn definitions(&self) -> &[Definition]
         ensures definitions { result.now ≡ self.now.definitions }
         ensures tree { IsOfTree self.now }

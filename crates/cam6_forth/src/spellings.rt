@@ -6,7 +6,8 @@ ghost use Rattle.cam6_forth.specs.Spellings.{primed_name, block_name, added_name
 use crate::words::{Output, StackWord, Target};
 use cam6_wiring::{Compass, Half, Level, Name, Rotation};
 
-/// Returns the stack word that a token is, in capitals, or `None` for any other token.
+/// Returns the stack word that a token is, such as `DUP`, `+` or `0=`. Letters have to be capitals.
+/// Returns `None` for any other token.
 #[tactic(auto, unfolding(crate::specs::Spellings::stack_word))]
 pub(crate) fn stack_word(token: &[u8]) -> Option<StackWord>
     ensures { result ≡ stack_word token.now }
@@ -31,7 +32,8 @@ pub(crate) fn stack_word(token: &[u8]) -> Option<StackWord>
     }
 }
 
-/// Returns the output word that a token is, of either half, or `None` for any other token.
+/// Returns the output word that a token is, from `>PLN0` to `>PLN3`, `>PLNA` or `>PLNB`, with its
+/// half. Returns `None` for any other token.
 #[tactic(auto, unfolding(crate::specs::Spellings::output_word))]
 pub(crate) fn output_word(token: &[u8]) -> Option<Output>
     ensures { result ≡ output_word token.now }
@@ -119,8 +121,8 @@ fn primed_name(token: &[u8]) -> Option<Name>
     Some(Name::Beside(compass, Level::Upper))
 }
 
-/// Returns the name of a bit of another cell of the block, such as `CW` or `OPP'`, or `None` for
-/// any other token.
+/// Returns the name of a bit of another cell of the block, such as `CW` or, for the upper bit,
+/// `OPP'`. Returns `None` for any other token.
 #[tactic(auto, unfolding(crate::specs::Spellings::block_name))]
 fn block_name(token: &[u8]) -> Option<Name>
     ensures { result ≡ block_name token.now }
@@ -137,8 +139,9 @@ fn block_name(token: &[u8]) -> Option<Name>
     Some(Name::InBlock(rotation, level))
 }
 
-/// Returns a name that only one of the Margolus neighbourhoods has, or `None` for any other token.
-/// Such a name shows the phase, or where the cell lies in its block.
+/// Returns the name that `PHASE`, `PHASE'`, `HORZ` or `VERT` is, or `None` for any other token.
+/// Only one of the Margolus neighbourhoods has it. It shows the phase, or where the cell lies in
+/// its block.
 #[tactic(auto, unfolding(crate::specs::Spellings::added_name))]
 fn added_name(token: &[u8]) -> Option<Name>
     ensures { result ≡ added_name token.now }
@@ -156,7 +159,8 @@ fn added_name(token: &[u8]) -> Option<Name>
     }
 }
 
-/// Returns a name of a minor assignment, which begins with `&`, or `None` for any other token.
+/// Returns the name that `&CENTER`, `&CENTER'`, `&PHASE`, `&PHASE'`, `&HORZ` or `&VERT` is: a name
+/// of a minor assignment. Returns `None` for any other token.
 #[tactic(auto, unfolding(crate::specs::Spellings::minor_name))]
 fn minor_name(token: &[u8]) -> Option<Name>
     ensures { result ≡ minor_name token.now }

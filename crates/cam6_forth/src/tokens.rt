@@ -4,7 +4,8 @@ ghost use Rattle.std.specs.Prelude.{slice_index, true, false};
 ghost use Rattle.std.specs.List.{slice_split};
 ghost use Rattle.cam6_forth.specs.Tokens.{is_space, tokens, with_front};
 
-/// Returns the first token and the text after it, or `None` if the text has no token.
+/// Returns the first token, without the spaces, tabs and line ends around it, and the text right
+/// after it. Returns `None` if the text has no token.
 pub(crate) fn first_token(text: &[u8]) -> Option<(&[u8], &[u8])>
     ensures token { MatchOption result (tokens text.now ≡ [])
         (λ cut. tokens text.now ≡ cut.0.now ∷ tokens cut.1.now) }
@@ -18,8 +19,8 @@ pub(crate) fn first_token(text: &[u8]) -> Option<(&[u8], &[u8])>
     Some(rest.split_at(run_len(rest)))
 }
 
-/// Returns how many spaces, tabs and line ends the text begins with. If it has nothing else,
-/// returns its length.
+/// Returns how many bytes that are spaces, tabs, CR or LF the text begins with. If it has nothing
+/// else, returns its length.
 fn space_len(text: &[u8]) -> usize
     ensures within { result ≤ length text.now }
     ensures same { tokens (drop result text.now) ≡ tokens text.now }
@@ -32,7 +33,7 @@ fn space_len(text: &[u8]) -> usize
     start
 }
 
-/// Returns how many bytes stand before the first space, tab or line end. If there is none, returns
+/// Returns how many bytes stand before the first space, tab, CR or LF. If there is none, returns
 /// the text's length.
 fn run_len(text: &[u8]) -> usize
     ensures within { result ≤ length text.now }
