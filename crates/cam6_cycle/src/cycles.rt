@@ -74,7 +74,7 @@ impl Cycle {
     }
 
     /// Returns the entry at a position, which a step forward does, and the position after it. After
-    /// the last position comes 0.
+    /// the last position comes 0. Positions are counted from 0, and this one has to be of an entry.
     pub fn forward(&self, position: usize) -> (Entry, usize)
         requires { position < length self.now }
         ensures entry { slice_get self.now position ≡ Some result.0 }
@@ -86,7 +86,7 @@ impl Cycle {
     }
 
     /// Returns the entry before a position, which a step backward undoes, and that entry's own
-    /// position. Before position 0 is the last entry.
+    /// position. Before position 0 is the last entry. The position has to be of an entry.
     pub fn backward(&self, position: usize) -> (Entry, usize)
         requires { position < length self.now }
         ensures entry { slice_get self.now result.1 ≡ Some result.0 }
@@ -103,7 +103,7 @@ impl Cycle {
     }
 
     /// Returns the entry that a step in this direction from a position uses, and the position after
-    /// the step.
+    /// the step. Backward it is the entry before the position. The position has to be of an entry.
     pub fn go(&self, position: usize, direction: Direction) -> (Entry, usize)
         requires { position < length self.now }
         ensures entry { slice_get self.now (entry_index direction (length self.now) position)
@@ -117,8 +117,9 @@ impl Cycle {
         }
     }
 
-    /// Returns which tables the steps of the cycle need in a direction, one for each use of a rule.
-    /// They are in the order of the entries, half A's before half B's.
+    /// Returns which tables the steps of the cycle need in a direction, one for each half with a
+    /// rule. They are in the order of the entries, half A's before half B's. A rule used twice has
+    /// two.
     pub fn tables_needed(&self, direction: Direction) -> ArrayVec<NeededTable, MAX_TABLES>
         ensures tables { result.items ≡ tables_needed direction self.now }
         // There is room for those of the longest cycle.
@@ -132,8 +133,8 @@ impl Cycle {
         tables
     }
 
-    /// Returns how many of the tables that the cycle needs stand before those of the entry at a
-    /// position. The number is the same in both directions.
+    /// Returns how many of the tables of `tables_needed` stand before those of the entry at a
+    /// position. The number is the same in both directions. The position has to be of an entry.
     pub fn tables_before(&self, position: usize) -> usize
         requires { position < length self.now }
         ensures before { (direction : Direction) →

@@ -25,7 +25,7 @@ pub struct Entry {
 impl Default for Entry {
     ghost is_default = { λ entry. entry ≡ idle_entry };
 
-    /// Returns an entry without rules, which leaves every plane as it is.
+    /// Returns an entry without rules, on the even grid in phase 0. It leaves every plane as it is.
     fn default() -> Entry {
         Entry {
             a: None,

@@ -31,7 +31,8 @@ pub struct NeededTable {
 impl Default for NeededTable {
     ghost is_default = { λ table. table ≡ unused_table };
 
-    /// Returns a table that no cycle needs, for unused places of an array.
+    /// Returns a table that no cycle needs, for unused places of an array. It is half A's for rule
+    /// 0, forward.
     fn default() -> NeededTable {
         NeededTable {
             half: Half::A,
@@ -46,6 +47,7 @@ impl Default for NeededTable {
 }
 
 /// Adds to `tables` the one that a half needs for its rule. If the half has no rule, adds nothing.
+/// There has to be room: fewer than `MAX_TABLES` before.
 pub(crate) fn add_table(
     tables: &mut ArrayVec<NeededTable, MAX_TABLES>,
     direction: Direction,
