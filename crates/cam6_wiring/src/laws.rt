@@ -4,17 +4,18 @@ ghost use Rattle.cam6_wiring.specs.Laws.{ShowsWhatIsSeen, ShowsNothingElse};
 ghost use Rattle.cam6_wiring.specs.Laws.{LinesAreNamed, IsItselfAlone, RotationsInTheBlock};
 ghost use Rattle.cam6_wiring.specs.Laws.{WiringsAreThemselves, TextsNameWhatTheyAreOf};
 
-/// If a line has a name, the address has there the bit that the cell sees under this name.
+/// If a name stands on line k, bit k of the address is what the cell sees under this name.
 pub fn an_address_shows_what_is_seen()
     ensures law { ShowsWhatIsSeen }
 {}
 
-/// If a line has no name, the address has 0 there.
+/// If line k has no name, bit k of the address is 0.
 pub fn an_address_shows_nothing_else()
     ensures law { ShowsNothingElse }
 {}
 
-/// `line_of` returns a line for a name exactly if `names_of` has this name at the line.
+/// `line_of` returns a line for a name exactly if `names_of` has this name at the line, under each
+/// neighbourhood and minor assignment.
 pub fn lines_are_named()
     ensures law { LinesAreNamed }
 {}
@@ -35,8 +36,8 @@ pub fn texts_name_what_they_are_of()
     ensures law { TextsNameWhatTheyAreOf }
 {}
 
-/// Under each rotation a cell sees a cell of its own block. That cell lies one, two or three
-/// corners further clockwise.
+/// On a torus of even side, a cell sees a cell of its own block under each rotation. That cell lies
+/// further clockwise: one corner, two for opposite, three for counterclockwise.
 pub fn rotations_stay_in_the_block()
     ensures law { RotationsInTheBlock }
 {}
