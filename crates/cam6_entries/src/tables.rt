@@ -107,9 +107,9 @@ impl Table {
     }
 
     /// Gives the table a program, if its entries have a short one, and a plan of the lines for this
-    /// neighbourhood and minor assignment. Both make bands faster under this wiring, and change
-    /// nothing under others. Copies of the table get them too. Writing an entry removes the
-    /// program. Does not allocate.
+    /// neighbourhood and minor assignment. They replace those that it had. Both make bands faster
+    /// under this wiring, and change no bits under any. Copies of the table get them too. Writing
+    /// an entry removes the program. Does not allocate.
     pub fn quicken(&mut self, hood: Hood, minor: Minor)
         ensures { self.new ≡ self.old }
     {
