@@ -18,9 +18,9 @@ use crate::tokens::first_token;
 use cam6_wiring::{Half, Hood, Minor, Wiring};
 use std::alloc::Global;
 
-/// Reads a text as a rule for this half, neighbourhood and minor assignment. Returns the rule, or
-/// in `Text` the first fault with its number and its token. Returns `NoMemory` if an allocation
-/// fails. Tokens are numbered from 1, and a text of more than 8192 bytes has its fault at token 0.
+/// Reads a text as a rule for this half, neighbourhood and minor assignment. Returns the rule, the
+/// text's first fault as `Text`, or `NoMemory` if an allocation fails. Tokens are numbered from 1,
+/// and the end counts as one more. A text of more than 8192 bytes has its fault at token 0.
 pub fn parse(
     alloc: Global,
     text: &str,
@@ -47,9 +47,9 @@ pub fn parse(
     parse_under(alloc, text, Wiring { half, hood, minor })
 }
 
-/// Reads a text as a rule for this wiring. Returns the rule, or in `Text` the first fault with its
-/// number and its token. Returns `NoMemory` if an allocation fails. Tokens are numbered from 1, and
-/// a text of more than 8192 bytes has its fault at token 0.
+/// Reads a text as a rule for this wiring. Returns the rule, the text's first fault as `Text`, or
+/// `NoMemory` if an allocation fails. Tokens are numbered from 1, and the end counts as one more. A
+/// text of more than 8192 bytes has its fault at token 0.
 pub fn parse_under(alloc: Global, text: &str, wiring: Wiring) -> Result<Rule, ParseFault>
     // An accepted text is the tree of the rule, and a refused one has the fault.
     ensures accepted { IsAccepted wiring text.now result }
@@ -70,7 +70,7 @@ pub fn parse_under(alloc: Global, text: &str, wiring: Wiring) -> Result<Rule, Pa
 
 /// Reads a text as a rule for this wiring. Returns the rule, the text's first fault, or `NoMemory`
 /// if an allocation fails. A text of more than `MAX_TEXT` bytes has its fault at token 0, and
-/// nothing of it is read. A fault of the end is one token after the last.
+/// nothing of it is read. A fault of the end has the number after the last token's.
 #[tactic(auto, unfolding(crate::specs::Reading::read_text))]
 fn read_text(alloc: Global, text: &str, wiring: Wiring) -> Result<Rule, ParseFault>
     ensures exact { IsReadAs (read_text wiring text.now) wiring result }

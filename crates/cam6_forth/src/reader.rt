@@ -280,8 +280,9 @@ impl Reader {
     }
 
     /// Returns the single word that a token of this kind is, and how much it adds to a definition's
-    /// size outside braces. Returns `LiteralRange`, `OtherHalf`, `UnknownWord` (also for a name
-    /// that the wiring lacks), or `OutOfPlace` if it can't be a single word.
+    /// size outside braces. Returns `LiteralRange` for digits above 65,535, and `OtherHalf` for the
+    /// other half's output word. A name that is not defined before, or not in the wiring, is
+    /// `UnknownWord`. Any other token is `OutOfPlace`.
     fn single_word_of(
         &self,
         wiring: Wiring,

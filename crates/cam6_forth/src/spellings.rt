@@ -56,8 +56,8 @@ pub(crate) fn output_word(token: &[u8]) -> Option<Output>
     Some(Output { half, target })
 }
 
-/// Returns the neighbour name that a token is, under any neighbourhood or minor assignment, or
-/// `None` for any other token.
+/// Returns the neighbour name that a token is, in capitals, under any neighbourhood or minor
+/// assignment. Returns `None` for any other token.
 #[tactic(auto, unfolding(crate::specs::Spellings::neighbour_name))]
 pub(crate) fn neighbour_name(token: &[u8]) -> Option<Name>
     ensures { result ≡ neighbour_name token.now }
@@ -70,7 +70,7 @@ pub(crate) fn neighbour_name(token: &[u8]) -> Option<Name>
 }
 
 /// Returns the name of the lower bit of a cell that a token names by its direction, such as
-/// `N.WEST`. Returns `None` for any other token.
+/// `N.WEST` or `CENTER`. Returns `None` for any other token.
 #[tactic(auto, unfolding(crate::specs::Spellings::plain_name))]
 fn plain_name(token: &[u8]) -> Option<Name>
     ensures { result ≡ plain_name token.now }
