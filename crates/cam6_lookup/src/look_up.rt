@@ -85,7 +85,7 @@ fn words(rows: &Sixteen, i: usize, entries: &[u8]) -> (u64, u64)
 const FIRST_POSITIONS: u64 = 0x0001_0001_0001_0001;
 
 /// Moves the bits of each lane of sixteen bits one position up. The lowest bit of each lane becomes
-/// that of `four`. The highest bit of each lane has to be 0, or it is lost.
+/// that of `four`. The highest bit of each lane has to be 0, or it falls into the next lane.
 fn one_more(word: u64, four: u64) -> u64
     ensures first { (p : ℕ) → p < 64 → p % 16 ≡ 0 → (0 < p → bit_at word (p - 1) ≡ 0) →
         bit_at result p ≡ bit_at four p }
