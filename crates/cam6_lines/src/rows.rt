@@ -293,9 +293,9 @@ fn words_here(row: &Row, first: usize) -> UnitRow
     [row[first], row[first + 1], row[first + 2], row[first + 3]]
 }
 
-/// Returns the row's four words from word `first` on, at most 4, with each bit replaced by the bit
-/// to its west. West of the first column is the last of the row's `words` words. Result words past
-/// these may hold anything.
+/// Returns the row's four words from word `first` on, with each bit replaced by the bit to its
+/// west. West of the first column is the last of the row's `words` words. `first` has to be at most
+/// 4. Result words past the row's `words` may hold anything.
 #[inline(always)]
 fn words_west(row: &Row, words: usize, first: usize) -> UnitRow
     requires some { 0 < words }
