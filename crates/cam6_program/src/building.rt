@@ -55,8 +55,8 @@ impl Diagram {
         Ok(diagram)
     }
 
-    /// Returns a diagram with the lines alone, and with `counters` places after them for the
-    /// operations that count lines. There have to be at most `PLACES` places in all.
+    /// Returns a diagram with the twelve lines alone, and with `counters` places after them for the
+    /// operations that count lines. All of these have to be at most `PLACES`.
     pub(crate) fn with_counters(counters: usize) -> Diagram
         requires { LINES + counters ≤ PLACES }
         ensures { result.count ≤ PLACES }

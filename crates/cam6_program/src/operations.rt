@@ -7,7 +7,7 @@ ghost use Rattle.cam6_lines.specs.declared.units.TheConstants.{UNIT};
 use cam6_lines::{UNIT, Unit};
 
 /// Writes the bits of `high` where `by` is 1, and those of `low` where it is 0, in the first
-/// `words` words of `out`.
+/// `words` words of `out`, at most `UNIT`.
 #[inline(always)]
 pub(crate) fn put_choice(out: &mut Unit, by: &Unit, low: &Unit, high: &Unit, words: usize)
     requires { words ≤ UNIT }
@@ -19,8 +19,8 @@ pub(crate) fn put_choice(out: &mut Unit, by: &Unit, low: &Unit, high: &Unit, wor
     }
 }
 
-/// Writes the bits of `high` inverted where `by` is 1, and those of `low` where it is 0, in the
-/// first `words` words of `out`.
+/// Writes the bits of `high` inverted where `by` is 1, and those of `low` where it is 0. Only the
+/// first `words` words of `out`, at most `UNIT`, are written.
 #[inline(always)]
 pub(crate) fn put_choice_not(out: &mut Unit, by: &Unit, low: &Unit, high: &Unit, words: usize)
     requires { words ≤ UNIT }
@@ -32,7 +32,8 @@ pub(crate) fn put_choice_not(out: &mut Unit, by: &Unit, low: &Unit, high: &Unit,
     }
 }
 
-/// Writes 1 where both units are 1, and else 0, in the first `words` words of `out`.
+/// Writes 1 where both units are 1, and else 0, in the first `words` words of `out`, at most
+/// `UNIT`.
 #[inline(always)]
 pub(crate) fn put_and(out: &mut Unit, first: &Unit, second: &Unit, words: usize)
     requires { words ≤ UNIT }
@@ -45,7 +46,7 @@ pub(crate) fn put_and(out: &mut Unit, first: &Unit, second: &Unit, words: usize)
 }
 
 /// Writes 1 where the first unit is 1 and the second is 0, and else 0, in the first `words` words
-/// of `out`.
+/// of `out`, at most `UNIT`.
 #[inline(always)]
 pub(crate) fn put_and_not(out: &mut Unit, first: &Unit, second: &Unit, words: usize)
     requires { words ≤ UNIT }
@@ -58,7 +59,7 @@ pub(crate) fn put_and_not(out: &mut Unit, first: &Unit, second: &Unit, words: us
 }
 
 /// Writes 1 where the first or the second unit is 1, and else 0, in the first `words` words of
-/// `out`.
+/// `out`, at most `UNIT`.
 #[inline(always)]
 pub(crate) fn put_or(out: &mut Unit, first: &Unit, second: &Unit, words: usize)
     requires { words ≤ UNIT }
@@ -71,7 +72,7 @@ pub(crate) fn put_or(out: &mut Unit, first: &Unit, second: &Unit, words: usize)
 }
 
 /// Writes 1 where the first unit is 1 or the second is 0, and else 0, in the first `words` words of
-/// `out`.
+/// `out`, at most `UNIT`.
 #[inline(always)]
 pub(crate) fn put_or_not(out: &mut Unit, first: &Unit, second: &Unit, words: usize)
     requires { words ≤ UNIT }
@@ -83,7 +84,8 @@ pub(crate) fn put_or_not(out: &mut Unit, first: &Unit, second: &Unit, words: usi
     }
 }
 
-/// Writes 1 where exactly one of both units is 1, and else 0, in the first `words` words of `out`.
+/// Writes 1 where exactly one of both units is 1, and else 0, in the first `words` words of `out`,
+/// at most `UNIT`.
 #[inline(always)]
 pub(crate) fn put_xor(out: &mut Unit, first: &Unit, second: &Unit, words: usize)
     requires { words ≤ UNIT }

@@ -137,10 +137,10 @@ impl Program {
         }
     }
 
-    /// Writes the new bits of both levels to the first `words` words of `lower` and `upper`. The
-    /// words after may hold anything. Lines that the program doesn't ask for must show 0. A level
-    /// that the program keeps is not written. The slots are scratch for what the steps make, and
-    /// may hold anything before.
+    /// Writes the new bits of both levels to the first `words` words, at most `UNIT`, of `lower`
+    /// and `upper`. The words after may hold anything. Lines that the program doesn't ask for must
+    /// show 0. A level that the program keeps is not written. The slots are scratch, and may hold
+    /// anything before.
     pub fn run(
         &self,
         lines: &Lines,

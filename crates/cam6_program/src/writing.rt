@@ -182,8 +182,8 @@ impl Writer {
     }
 
     /// Adds the step of node `number` to the program, which has to have fewer than `MAX_STEPS`.
-    /// Picks a free slot for it. The slots that it reads are not yet free then. Afterwards those
-    /// that nothing else reads are.
+    /// Picks a slot for it while those that it reads are not yet free. Then frees those that
+    /// nothing will read any more.
     fn put_step(&mut self, number: usize, operation: Operation)
         requires number { number < NODES }
         requires count { self.old.count < MAX_STEPS }
