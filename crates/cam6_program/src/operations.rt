@@ -6,8 +6,8 @@ ghost use Rattle.cam6_lines.specs.declared.units.TheConstants.{UNIT};
 
 use cam6_lines::{UNIT, Unit};
 
-/// Writes the bits of `high` where `by` is 1, and those of `low` where it is 0, in the first
-/// `words` words of `out`, at most `UNIT`.
+/// Writes the bits of `high` where `by` is 1, and those of `low` where it is 0. Only the first
+/// `words` words of `out`, at most `UNIT`, are written.
 #[inline(always)]
 pub(crate) fn put_choice(out: &mut Unit, by: &Unit, low: &Unit, high: &Unit, words: usize)
     requires { words ≤ UNIT }
@@ -45,8 +45,8 @@ pub(crate) fn put_and(out: &mut Unit, first: &Unit, second: &Unit, words: usize)
     }
 }
 
-/// Writes 1 where the first unit is 1 and the second is 0, and else 0, in the first `words` words
-/// of `out`, at most `UNIT`.
+/// Writes 1 where the first unit is 1 and the second is 0, and else 0. Only the first `words` words
+/// of `out`, at most `UNIT`, are written.
 #[inline(always)]
 pub(crate) fn put_and_not(out: &mut Unit, first: &Unit, second: &Unit, words: usize)
     requires { words ≤ UNIT }
@@ -71,8 +71,8 @@ pub(crate) fn put_or(out: &mut Unit, first: &Unit, second: &Unit, words: usize)
     }
 }
 
-/// Writes 1 where the first unit is 1 or the second is 0, and else 0, in the first `words` words of
-/// `out`, at most `UNIT`.
+/// Writes 1 where the first unit is 1 or the second is 0, and else 0. Only the first `words` words
+/// of `out`, at most `UNIT`, are written.
 #[inline(always)]
 pub(crate) fn put_or_not(out: &mut Unit, first: &Unit, second: &Unit, words: usize)
     requires { words ≤ UNIT }
