@@ -27,8 +27,8 @@ pub(crate) fn program_under(entries: &[u8], hood: Hood) -> Option<Program>
     }
 }
 
-/// Returns 4096 entries that don't depend on lines 8 and 9. Each is the one of these 4096 entries
-/// at its address with 0 on these lines.
+/// Returns entries that don't depend on lines 8 and 9. Each is the given entry at its address with
+/// 0 on these lines. There have to be 4096 given entries.
 fn without_lines_8_and_9(entries: &[u8]) -> [u8; 4096]
     requires { length entries.now ≡ addresses }
     ensures { (address : ℕ) → address < addresses →
