@@ -74,7 +74,7 @@ impl Cycle {
     }
 
     /// Returns the entry at a position, which a step forward does, and the position after it. After
-    /// the last position comes 0. Positions are counted from 0, and this one has to be of an entry.
+    /// the last position comes 0. The position has to be below the number of entries.
     pub fn forward(&self, position: usize) -> (Entry, usize)
         requires { position < length self.now }
         ensures entry { slice_get self.now position ≡ Some result.0 }
@@ -86,7 +86,8 @@ impl Cycle {
     }
 
     /// Returns the entry before a position, which a step backward undoes, and that entry's own
-    /// position. Before position 0 is the last entry. The position has to be of an entry.
+    /// position. Before position 0 is the last entry. The position has to be below the number of
+    /// entries.
     pub fn backward(&self, position: usize) -> (Entry, usize)
         requires { position < length self.now }
         ensures entry { slice_get self.now result.1 ≡ Some result.0 }
@@ -103,7 +104,8 @@ impl Cycle {
     }
 
     /// Returns the entry that a step in this direction from a position uses, and the position after
-    /// the step. Backward it is the entry before the position. The position has to be of an entry.
+    /// the step. Backward it is the entry before the position. The position has to be below the
+    /// number of entries.
     pub fn go(&self, position: usize, direction: Direction) -> (Entry, usize)
         requires { position < length self.now }
         ensures entry { slice_get self.now (entry_index direction (length self.now) position)
@@ -134,7 +136,8 @@ impl Cycle {
     }
 
     /// Returns how many of the tables of `tables_needed` stand before those of the entry at a
-    /// position. The number is the same in both directions. The position has to be of an entry.
+    /// position. The number is the same in both directions. The position has to be below the number
+    /// of entries.
     pub fn tables_before(&self, position: usize) -> usize
         requires { position < length self.now }
         ensures before { (direction : Direction) →
