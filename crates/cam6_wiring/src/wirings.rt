@@ -164,7 +164,7 @@ fn block_names(last: [Option<Name>; 2]) -> [Option<Name>; 10]
     ]
 }
 
-/// Returns the names of lines 10 and 11, in this order. None is missing.
+/// Returns the names of lines 10 and 11, in this order. Neither is ever `None`.
 fn minor_names(minor: Minor) -> [Option<Name>; 2]
     ensures { result ≡ minor_names minor }
 {
