@@ -62,7 +62,8 @@ impl Instructions {
         self.back_to_front.len()
     }
 
-    /// Returns the instruction that is next when `remaining` others are left after it.
+    /// Returns the instruction after which `remaining` others are left. `remaining` must be below
+    /// `len`.
     pub fn before(&self, remaining: usize) -> Instruction
         requires { remaining < length self.now }
         ensures { last_of (remaining + 1) self.now ≡ result ∷ last_of remaining self.now }
@@ -70,7 +71,8 @@ impl Instructions {
         self.back_to_front[remaining]
     }
 
-    /// Puts an instruction in front of the others. Fails only if an allocation fails.
+    /// Puts an instruction in front of the others. Returns `NoMemory` only if an allocation fails.
+    /// Then nothing is promised of what the list holds.
     pub fn put(&mut self, instruction: Instruction) -> Result<(), NoMemory>
         ensures new { OnOk result (self.new ≡ instruction ∷ self.old) }
         ensures grows { length self.old ≤ length self.new }
@@ -79,8 +81,8 @@ impl Instructions {
         Ok(())
     }
 
-    /// Puts other instructions in front of these, in their own order. Fails only if an allocation
-    /// fails.
+    /// Puts other instructions in front of these, in their own order. Returns `NoMemory` only if an
+    /// allocation fails. Then nothing is promised of what the list holds.
     pub fn put_all(&mut self, others: &Instructions) -> Result<(), NoMemory>
         ensures new { OnOk result (self.new ≡ others.now ++ self.old) }
         ensures grows { length self.old ≤ length self.new }

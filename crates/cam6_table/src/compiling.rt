@@ -35,9 +35,9 @@ impl From<NoMemory> for NotCompiled {
     }
 }
 
-/// Reads a rule's text as code, and runs the code at every address. If it stops nowhere, returns
-/// it, and `trial` is the rule's table. Otherwise returns why, and the entries of `trial` may be
-/// anything.
+/// Compiles a rule's text, and runs the code at every address. If it stops nowhere, returns the
+/// code, and `trial` is the rule's table. Otherwise returns the text's first fault, the least
+/// address at which it stops, or `NoMemory`. Then the entries of `trial` may be anything.
 pub fn compile(
     alloc: Global,
     wiring: Wiring,

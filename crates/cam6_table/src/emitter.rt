@@ -28,7 +28,8 @@ impl Code {
 }
 
 /// Returns the instructions of each definition, in the order of the definitions. The last are those
-/// of the rule.
+/// of the rule. They must be the definitions of a parsed rule with this wiring. Returns `NoMemory`
+/// only if an allocation fails.
 fn codes_of(
     alloc: Global,
     wiring: Wiring,
@@ -45,9 +46,9 @@ fn codes_of(
     Ok(codes)
 }
 
-/// Returns the instructions of words in a row. `codes` has those of the definitions before. It
-/// takes the words from the last to the first, so that what a jump leads over is there before the
-/// jump.
+/// Returns the instructions of a definition's words. `codes` has those of all definitions before
+/// it, in order. Takes the words from the last to the first, so that what a jump passes is there
+/// before the jump. The words must be of a parsed rule with this wiring.
 fn code_of(
     alloc: Global,
     wiring: Wiring,
@@ -111,8 +112,9 @@ impl Emitter {
     ghost use Rattle.cam6_table.specs.Internal.Emitting.{with_head, word_code};
     ghost use Rattle.cam6_table.specs.Internal.Emitting.{IsOpen, IsThere, HasCode, HasIts};
 
-    /// Writes the instructions of one more word in front. `codes` has those of the definitions
-    /// before.
+    /// Writes the instructions of one more word in front of those that follow it. `codes` has those
+    /// of the definitions before, in order. The word must fit what is open: see `emit_else`,
+    /// `emit_if`, `emit_cases` and `put_word`.
     fn emit(&mut self, wiring: Wiring, word: Word, codes: &[Instructions]) -> Result<(), NoMemory>
         requires { HasIts wiring codes.now word self.old }
         ensures { OnOk result (self.new ≡ emit wiring codes.now word self.old) }
@@ -141,7 +143,7 @@ impl Emitter {
     }
 
     /// Writes the jump of an `ELSE`: from the end of the first body past the second one. Notes the
-    /// second body as the target of the `IF`.
+    /// second body as the target of the `IF`. `emit_then` must have noted the target of the jump.
     fn emit_else(&mut self) -> Result<(), NoMemory>
         requires { IsOpen self.old.landings }
         ensures { OnOk result (self.new ≡ emit_else self.old.landings self.old) }
@@ -157,7 +159,8 @@ impl Emitter {
     }
 
     /// Writes the jump of the innermost open `IF`. The jump takes the top value off. If it is 0, it
-    /// passes the instructions up to the target.
+    /// passes the instructions up to the target. `emit_then` or `emit_else` must have noted the
+    /// target.
     fn emit_if(&mut self) -> Result<(), NoMemory>
         requires { IsOpen self.old.landings }
         ensures { OnOk result (self.new ≡ emit_if self.old.landings self.old) }
@@ -179,8 +182,8 @@ impl Emitter {
         });
     }
 
-    /// Ends the case at its opening brace. Writes the instruction that takes an index off and looks
-    /// for that word.
+    /// Ends the case at its opening brace. Writes the instruction that takes an index off, counted
+    /// from 0, and looks for that word. A case must be open.
     fn emit_cases(&mut self) -> Result<(), NoMemory>
         requires { IsThere self.old.case }
         ensures { OnOk result (self.new ≡ emit_cases self.old.case self.old) }
@@ -221,7 +224,8 @@ impl Emitter {
     }
 
     /// Writes the instructions of a single word in front, without a head. If the word calls a
-    /// definition, copies the definition's instructions from `codes`.
+    /// definition, copies its instructions from `codes`. A name must be one of the wiring's, and a
+    /// definition one of those in `codes`.
     fn put_word(
         &mut self,
         wiring: Wiring,

@@ -51,7 +51,8 @@ pub fn start(code: &Instructions) -> Place
 }
 
 /// Runs the code from a place to its end, and changes the state. Returns the fault if it stops
-/// before its end. `steps` falls by one with each instruction that is done.
+/// before its end. `steps` falls by one with each instruction that is done. The code and `steps`
+/// must be at least `from.remaining`.
 pub fn run(
     code: &Instructions,
     from: Place,
@@ -88,7 +89,8 @@ pub struct Next {
 }
 
 /// Does one instruction on the state. Returns how the code goes on, or the fault at which it stops.
-/// `word` is the number of the case's word that is looked for, if any.
+/// `word` is how many words of a case come before the one that is looked for. It is `None` if none
+/// is looked for, and matters only at a `CaseWord`.
 #[inline(always)]
 fn act(
     word: Option<usize>,
@@ -121,18 +123,17 @@ fn act(
     Ok(go(0, None))
 }
 
-/// Returns a `Next`: the code passes `passed` instructions, and looks for word number `word` of a
-/// case, if any.
+/// Returns a `Next`: the code passes `passed` instructions, and then looks for word number `word`
+/// of a case, counted from 0 and from there. With `None` it looks for none.
 pub fn go(passed: usize, word: Option<usize>) -> Next
     ensures { result ≡ record { passed = passed; word = word } }
 {
     Next { passed, word }
 }
 
-/// Returns how code goes on at the head of a case's word. `word` counts the words up to the one
-/// that is looked for. If it is 0, the code goes on in this word. If it is more, the code passes
-/// the word's `length` instructions. If it is `None`, the code passes all `after` instructions to
-/// the end of the case.
+/// Returns how code goes on at the head of a case's word. `word` is how many words come before the
+/// one that is looked for. If it is 0, the code goes on in this word. If more, it passes the word's
+/// `length` instructions. If `None`, it passes all `after` to the end of the case.
 pub fn at_head(word: Option<usize>, length: usize, after: usize) -> Next
     ensures { result ≡ at_head word length after }
 {

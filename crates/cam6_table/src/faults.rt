@@ -16,7 +16,7 @@ pub enum RuleFault {
 }
 
 impl RuleFault {
-    /// Returns the fault's number, as replies have it.
+    /// Returns the fault's number, 40 to 43, as replies have it.
     pub fn number(self) -> u8
         ensures { result ≡ fault_number self }
     {

@@ -50,8 +50,9 @@ pub fn fill(code: &Code, table: &mut Table) -> Result<(), (u16, RuleFault)>
 }
 
 /// Fills the entries at the addresses that have no bit outside the mask. If the rule stops at one
-/// of them, returns the least one and the fault. At any other address the rule has the result of
-/// one of these, which is lower.
+/// of them, returns the least one and the fault. The mask must have the lines that the code reads
+/// and those of the centre. So at any other address the rule does what it does at a lower one of
+/// these.
 fn fill_where_lines_differ(
     code: &Code,
     mask: u16,
@@ -81,8 +82,9 @@ fn mark_unfilled(table: &mut Table)
     }
 }
 
-/// Fills entries at addresses within the mask, group by group. In this order lanes seldom part. At
-/// the first fault it stops, and leaves the other entries unfilled.
+/// Fills entries at addresses within the mask, group by group. A group's addresses differ on the
+/// six lines that the code reads least, so that lanes seldom part. At the first fault it stops, and
+/// leaves the other entries unfilled. Entries that are filled before must be right.
 fn fill_in_groups(code: &Code, mask: u16, scratch: &mut Scratch, table: &mut Table)
     requires whole { length table.old ≡ addresses }
     requires before { AreRightIfFilled (result_at code.now) table.old }
@@ -104,8 +106,8 @@ fn fill_in_groups(code: &Code, mask: u16, scratch: &mut Scratch, table: &mut Tab
     }
 }
 
-/// Returns the addresses of a group, one for each lane. Each has the bits of `group` and the lane's
-/// bits in `own`.
+/// Returns the addresses of a group, one for each lane. Each has the bits of `group`, which all of
+/// them share, and the lane's bits in `own`.
 fn group_addresses(group: u16, own: &LaneValues) -> LaneValues
     ensures { (lane : ℕ) → lane < LANES → slice_index result lane < ENTRIES }
 {
@@ -117,7 +119,8 @@ fn group_addresses(group: u16, own: &LaneValues) -> LaneValues
 }
 
 /// Fills the entries at addresses within the mask that are not filled yet, in the order of the
-/// addresses. If the rule stops at one of them, returns the least one and the fault.
+/// addresses. If the rule stops at one of them, returns the least one and the fault. Entries that
+/// are filled before must be right, and the mask is as in `fill_where_lines_differ`.
 fn fill_the_rest(
     code: &Code,
     mask: u16,
@@ -154,8 +157,8 @@ struct Batch {
     end: u16,
 }
 
-/// Finds the next unfilled addresses from `from` to `last` that have no bit outside the mask. Finds
-/// at most one for each lane.
+/// Finds the next unfilled addresses from `from` to `last`, both included, that have no bit outside
+/// the mask. Finds at most one for each lane. `from` is at most `last`, which is an address.
 fn next_batch(mask: u16, from: u16, last: u16, table: &Table) -> Batch
     requires whole { length table.now ≡ addresses }
     requires from { from ≤ last }
@@ -200,8 +203,8 @@ fn new_scratch(code: &Code) -> Scratch {
 }
 
 /// Runs the code at the addresses of the first `count` lanes, and fills their entries. At the first
-/// of these addresses at which the rule stops, returns it with the fault, and fills no further
-/// entry.
+/// lane whose address stops the rule, returns that address with the fault, and fills no further
+/// entry. Entries that are filled before must be right, and stay so.
 fn fill_lanes(
     code: &Code,
     at: &LaneValues,
@@ -249,7 +252,8 @@ fn run_all(code: &Code, addresses: &LaneValues, scratch: &mut Scratch)
 }
 
 /// Returns the code's entry at the address of a lane, or its fault there. If the lane isn't at the
-/// end of the code, runs the code on from its place.
+/// end of the code, runs the code on from its place. `run_all` must have run that address in the
+/// lane.
 fn entry_in(code: &Code, scratch: &Scratch, lane: usize, address: u16) -> Result<u8, RuleFault>
     requires lane { lane < LANES }
     requires left { IsLeft address code.now (slice_index scratch.now.places.remaining_by_lane lane)

@@ -39,7 +39,8 @@ pub struct Flow {
     pub was_parted: bool,
 }
 
-/// Returns places at which all lanes wait at the start of the code, with empty stacks.
+/// Returns places at which all lanes wait at the start of the code, with empty stacks. The code
+/// must have at most 4,096 instructions.
 pub fn all_at_start(code: &Instructions) -> Places
     requires { length code.now ≤ max_eval_steps }
     ensures remaining_by_lane { (lane : ℕ) → lane < LANES →
@@ -90,8 +91,8 @@ pub fn resume(
     new_flow(those, remaining, stops_at, lanes)
 }
 
-/// Returns the mark of a lane in a set: `IN` if it waits at the place and `other` has 0 for it, and
-/// else 0.
+/// Returns a lane's mark in a set: `IN` if `is_there` is true and its mark `other` in another set
+/// is 0, and else 0.
 #[inline(always)]
 fn mark_of(other: u16, is_there: bool) -> u16
     ensures { IsOther result other is_there }
@@ -134,9 +135,9 @@ pub fn wait(places: &mut Places, set: &LaneMask, remaining: usize, top: usize)
     places.tops = put_in(set, top as u16, &places.tops);
 }
 
-/// Takes the top values off. Lanes in which the value is 0 pass `distance` instructions. If only
-/// some pass them, the others go on, and those may have to wait. Returns `NotInAllLanes`, and
-/// changes nothing, if a value may not be in place.
+/// Does `SkipIfZero(distance)`, at which the flow must be: takes the top values off. Lanes in which
+/// the value is 0 pass `distance` instructions. If only some pass them, the others go on, and those
+/// may have to wait. Returns `NotInAllLanes`, and changes nothing, if a value may not be in place.
 #[inline(always)]
 pub fn part_at_if(
     code: &Instructions,
@@ -184,9 +185,10 @@ pub fn part_at_if(
     Ok(())
 }
 
-/// Lets the lanes `parts.others` of a flow go on up to `target`, while `parts.zeros` stay there. If
-/// the first come to `target` without parting anew, both go on as one flow. If not, the flow loses
-/// the lanes `parts.zeros`, which wait at `target`.
+/// Lets the lanes `parts.others` of a flow go on until `target` instructions are left, where
+/// `parts.zeros` already are. If they come there without parting anew, both go on as one flow. If
+/// not, the flow loses the lanes `parts.zeros`, which wait there. Both sets together are the flow's
+/// lanes.
 fn split_flow(
     code: &Instructions,
     addresses: &LaneValues,
@@ -243,9 +245,10 @@ fn split_flow(
     }
 }
 
-/// Takes an index off each stack. Each lane of the flow then waits at the case's word with this
-/// index, and the flow has no lane left. Returns `NotInAllLanes`, and changes nothing, if an index
-/// may not be in place, or is `count` or more.
+/// Does `Case(count)`, at which the flow must be: takes an index off each stack. Each lane then
+/// waits at the case's word with this index, and the flow has no lane left. Returns
+/// `NotInAllLanes`, and changes nothing, if an index may not be in place, is `count` or more, or
+/// has no word.
 #[inline(always)]
 pub fn part_at_case(
     code: &Instructions,
@@ -292,10 +295,10 @@ pub fn part_at_case(
     Ok(())
 }
 
-/// Returns how many instructions are left to each lane of the set at the word of a case that its
-/// index picks. Other lanes keep `old`. `from` is how many are left at the case's first word. Adds
-/// the places of these words to `words`. Returns `NotInAllLanes` if an index is `count` or more, or
-/// if the code has no such word.
+/// Returns how many instructions are left to each lane of the set at the case's word with its
+/// index. Other lanes keep `old`. `from` are left at the first word's head. Adds the words' places
+/// to `words`, with stacks that end at row `top`. Returns `NotInAllLanes` if an index is `count` or
+/// more, or has no word.
 fn find_case_words(
     code: &Instructions,
     from: usize,

@@ -41,7 +41,8 @@ impl Stacks {
         }
     }
 
-    /// Returns the stack of a lane. `top` is the row after its top value.
+    /// Returns the stack of a lane, counted from 0. `top` is the row after its top value. `floors`
+    /// must say where the stack lies.
     pub fn of_lane(&self, floors: &Floors, lane: usize, top: usize) -> Stack
         requires lane { lane < LANES }
         requires stands { Stands lane top floors.now }
@@ -57,7 +58,7 @@ impl Stacks {
     }
 
     /// Pushes a lane's values from row `from` to before row `to` onto `stack`, the lowest row
-    /// first.
+    /// first. The stack must have room for all of them.
     fn put_rows(&self, lane: usize, from: usize, to: usize, stack: &mut Stack)
         requires lane { lane < LANES }
         requires up { from ≤ to }
@@ -98,7 +99,8 @@ impl Stacks {
         }
     }
 
-    /// Lends the values of all lanes at a depth below the top. The top values are at depth 1.
+    /// Lends the values of all lanes at a depth below the top, from 1 to `len`. The top values are
+    /// at depth 1.
     #[inline(always)]
     pub fn at_depth(&self, depth: usize) -> &LaneValues
         requires some { 0 < depth }
@@ -109,8 +111,8 @@ impl Stacks {
         &self.rows[self.len - depth]
     }
 
-    /// Pushes a value in each lane of a set, without a check for room. In other lanes the row that
-    /// was above the top stays as it was.
+    /// Pushes a value in each lane of a set, without a check for room. There must be a row above
+    /// the top. In other lanes that row stays as it was.
     #[inline(always)]
     fn push_unchecked(&mut self, set: &LaneSet, values: &LaneValues)
         requires room { self.old.len < ROWS }
@@ -159,7 +161,7 @@ impl Stacks {
     }
 
     /// Copies a lane's values to rows `from` to before `to`, where they are in place. Before, they
-    /// lie `width` rows below.
+    /// lie `width` rows below, and `width` is at most `from`.
     pub fn fill(&mut self, lane: usize, width: usize, from: usize, to: usize)
         requires lane { lane < LANES }
         requires low { width ≤ from }
@@ -205,9 +207,9 @@ impl Stacks {
         Ok(())
     }
 
-    /// Does a stack word in all lanes of a set. Returns `NotInAllLanes`, and changes nothing, if by
-    /// the span a stack may lack a value or room. So it does if the word would stop in a lane of
-    /// the set.
+    /// Does a stack word in all lanes of a set. Returns `NotInAllLanes`, and changes nothing, in
+    /// two cases: by the span a stack may lack a value or room, or a result is out of range in a
+    /// lane of the set.
     pub fn apply(&mut self, set: &LaneSet, span: Span, word: StackWord) -> Result<(), NotInAllLanes>
         requires holds { Holds span self.old.len }
         ensures { LeavesIn set.now.mask span word self.old self.new result }
@@ -314,8 +316,8 @@ impl Stacks {
     }
 
     /// Does a word that makes one value of the top two, in all lanes of a set. Returns
-    /// `NotInAllLanes`, and changes nothing, if by the span a stack may lack a value. So it does if
-    /// the word would stop in a lane of the set.
+    /// `NotInAllLanes`, and changes nothing, in two cases: by the span a stack may lack a value, or
+    /// a result is out of range in a lane of the set.
     #[inline(always)]
     fn apply_binary(&mut self, set: &LaneSet, span: Span, merge: Merge) -> Result<(), NotInAllLanes>
         requires holds { Holds span self.old.len }

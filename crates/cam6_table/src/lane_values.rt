@@ -32,7 +32,8 @@ pub enum Merge {
 }
 
 impl Merge {
-    /// Whether the word's result for `a` below `b` is from 0 to 65,535. Else the word stops.
+    /// Whether the word's result for `a` below `b` on the stack is from 0 to 65,535. Else the word
+    /// stops.
     #[inline(always)]
     fn fits(self, a: u16, b: u16) -> bool
         ensures { IsTrue result → Fits self a b }
@@ -46,7 +47,8 @@ impl Merge {
         }
     }
 
-    /// Returns the word's result for `a` below `b`, if it fits.
+    /// Returns the word's result for `a` below `b` on the stack. If the result doesn't fit, returns
+    /// a number that means nothing.
     #[inline(always)]
     fn of(self, a: u16, b: u16) -> u16
         ensures { (rest : List ℕ) → Fits self a b →
@@ -66,7 +68,7 @@ impl Merge {
     }
 
     /// Whether the word's result fits in each lane of a set, so that it stops in none of them. The
-    /// values `a` are below the values `b`.
+    /// values `a` are below the values `b` on the stacks.
     #[inline(always)]
     pub fn fits_in(self, set: &LaneSet, a: &LaneValues, b: &LaneValues) -> bool
         ensures { IsTrue result → (lane : ℕ) → lane < LANES → IsIn set.now.mask lane →
@@ -79,8 +81,8 @@ impl Merge {
         fits
     }
 
-    /// Returns the word's result in each lane in which it fits. The values `a` are below the values
-    /// `b`.
+    /// Returns the word's result in each lane in which it fits, and numbers that mean nothing in
+    /// the others. The values `a` are below the values `b` on the stacks.
     #[inline(always)]
     pub fn of_all(self, a: &LaneValues, b: &LaneValues) -> LaneValues
         ensures { (lane : ℕ) → lane < LANES → (rest : List ℕ) →

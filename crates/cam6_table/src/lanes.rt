@@ -52,7 +52,7 @@ pub fn clear(lanes: &mut Lanes)
     lanes.upper = in_all(NOT_WRITTEN);
 }
 
-/// Returns the state of a lane whose stack ends before row `top`.
+/// Returns the state of a lane, counted from 0. Its stack must end before row `top`, by the floors.
 pub fn state_of(lanes: &Lanes, lane: usize, top: usize) -> State
     requires lane { lane < LANES }
     requires stands { Stands lane top lanes.now.floors }
@@ -65,8 +65,8 @@ pub fn state_of(lanes: &Lanes, lane: usize, top: usize) -> State
     }
 }
 
-/// Returns the bit that a lane's value in `lower` or `upper` means, or `None` if the lane wrote
-/// nothing.
+/// Returns the bit that a lane's value in `lower` or `upper` means, true for 1. Returns `None` if
+/// the lane wrote nothing.
 fn bit_written(value: u16) -> Option<bool>
     ensures { result ≡ bit_written value }
 {
@@ -77,8 +77,9 @@ fn bit_written(value: u16) -> Option<bool>
     }
 }
 
-/// Returns the entry of a lane that is at the end of the code, from the bits that it wrote. The
-/// stack doesn't matter.
+/// Returns the entry of a lane that is at the end of the code, from the bits that it wrote. Bit 0
+/// is for the lower plane, bit 1 for the upper. A plane that isn't written keeps its centre, from
+/// `address`. The stack doesn't matter.
 pub fn entry_at_end(lanes: &Lanes, lane: usize, address: u16) -> u8
     requires { lane < LANES }
     ensures entry { (top : ℕ) →
@@ -93,9 +94,9 @@ pub fn entry_at_end(lanes: &Lanes, lane: usize, address: u16) -> u8
     entry_of(&state, address)
 }
 
-/// Does an output word in all lanes of a set: takes the top values off, and notes their bits as
-/// written to the target planes. Returns `NotInAllLanes`, and changes nothing, if by the span a
-/// stack may lack a value.
+/// Does an output word in all lanes of a set: takes the top values off, and notes their lowest bits
+/// as written to the target plane. For `Both`, bit 0 goes to the lower plane and bit 1 to the
+/// upper. Returns `NotInAllLanes`, and changes nothing, if by the span a stack may lack a value.
 #[inline(always)]
 pub fn write_in(
     lanes: &mut Lanes,

@@ -22,7 +22,7 @@ pub fn least_read_lines(code: &Code, mask: u16) -> u16 {
     chosen
 }
 
-/// Returns for each line how many instructions of the code read it.
+/// Returns for each line, from 0 to 15, how many instructions of the code read it.
 fn reads_of_lines(code: &Code) -> [u16; NAMED_LINES] {
     let instructions = code.instructions();
     let mut reads = [0u16; NAMED_LINES];
@@ -37,8 +37,8 @@ fn reads_of_lines(code: &Code) -> [u16; NAMED_LINES] {
     reads
 }
 
-/// Returns the bit of that line of `mask` that is read least, or 0 if `mask` has no line. `reads`
-/// has how often each line is read.
+/// Returns the bit of that line of `mask` that is read least, the lowest of several, or 0 if `mask`
+/// has no line. `reads` has how often each line is read.
 fn least_read_of(reads: &[u16; NAMED_LINES], mask: u16) -> u16 {
     let mut least = 0;
     let mut fewest = u16::MAX;

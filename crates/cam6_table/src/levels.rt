@@ -12,9 +12,9 @@ use crate::lane_values::{LANES, LaneValues};
 use crate::lanes::Lanes;
 use crate::sets::{LaneMask, greatest_in, least_in, lowered, put_in, raised, those_equal};
 
-/// Moves the stacks of two sets of lanes, so that all of them end at one row, and returns that row.
-/// Before, the first set's stacks end at row `here`, and the second set's at row `there`. The
-/// result is one of these two rows.
+/// Moves the stacks of two sets of lanes, so that all of them end at one row, and returns that row:
+/// `here` or `there`. Before, the first set's stacks end at row `here`, and the second set's at row
+/// `there`. The sets must have no lane in common. `lanes.stacks.len` stays.
 pub fn level(
     first: &LaneMask,
     second: &LaneMask,
@@ -44,10 +44,10 @@ pub fn level(
     }
 }
 
-/// Moves the stacks of two sets of lanes, so that all of them end at one row, and returns that row.
-/// Before, those of `high` end at row `from`, and those of `low` at row `to`, which isn't above it.
-/// If each stack of `high` has a gap that is wide enough, these are lowered. Otherwise those of
-/// `low` are raised.
+/// Moves the stacks of two sets, so that all end at one row, and returns that row. Before, those of
+/// `high` end at row `from`, and those of `low` at row `to`, not above it. If each of `high` has a
+/// gap that is wide enough, these are lowered, and else those of `low` raised. No lane is in both
+/// sets.
 fn join_levels(high: &LaneMask, low: &LaneMask, from: usize, to: usize, lanes: &mut Lanes) -> usize
     requires each_high { (lane : ℕ) → lane < LANES → IsIn high.now lane ⊎ IsOut high.now lane }
     requires each_low { (lane : ℕ) → lane < LANES → IsIn low.now lane ⊎ IsOut low.now lane }
@@ -141,8 +141,8 @@ pub fn lower_stacks(set: &LaneMask, from: usize, to: usize, lanes: &mut Lanes)
     lanes.floors = Floors { rows, ends, widths };
 }
 
-/// Copies rows below `to` up by `by` rows, the last one first. Copies a row only in the lanes of
-/// the set whose entry in `ends` isn't above it.
+/// Copies rows below `to` up by `by` rows, the last one first, within the 64 rows. Copies a row
+/// only in the lanes of the set whose entry in `ends` isn't above it.
 fn move_up(stacks: &mut Stacks, set: &LaneMask, ends: &LaneValues, by: usize, to: usize)
     requires set { (lane : ℕ) → lane < LANES → IsIn set.now lane ⊎ IsOut set.now lane }
     requires within { to + by ≤ ROWS }
@@ -165,8 +165,8 @@ fn move_up(stacks: &mut Stacks, set: &LaneMask, ends: &LaneValues, by: usize, to
     }
 }
 
-/// Copies rows below `to` down by `by` rows, the first one first. Copies a row only in the lanes of
-/// the set whose entry in `ends` isn't above it.
+/// Copies rows below `to` down by `by` rows, the first one first, without those below row `by`.
+/// Copies a row only in the lanes of the set whose entry in `ends` isn't above it.
 fn move_down(stacks: &mut Stacks, set: &LaneMask, ends: &LaneValues, by: usize, to: usize)
     requires set { (lane : ℕ) → lane < LANES → IsIn set.now lane ⊎ IsOut set.now lane }
     requires within { to ≤ ROWS }

@@ -27,8 +27,9 @@ pub fn untouched() -> State
     }
 }
 
-/// Does an output word: takes the top value off, and notes its bits as written to the target
-/// planes. Fails if there is no value. After a fault nothing is promised of the stack.
+/// Does an output word: takes the top value off, and notes its lowest bit as written to the target
+/// plane. For `Both`, bit 0 goes to the lower plane and bit 1 to the upper. Returns `MissingValue`
+/// if the stack is empty. After a fault nothing is promised of the stack.
 pub fn write_output(state: &mut State, target: Target) -> Result<(), RuleFault>
     ensures { IsOutcome (written target state.old) state.new result }
 {

@@ -87,7 +87,7 @@ fn missing_bits(mask: u16) -> u16
     !mask
 }
 
-/// `IN` if two values are equal, and else 0.
+/// Returns `IN` if two values are equal, and else 0.
 #[inline(always)]
 fn in_if_equal(a: u16, b: u16) -> u16
     ensures { result ≡ (if a == b then IN else 0) }
@@ -294,7 +294,7 @@ pub struct Parts {
     pub some_others: u16,
 }
 
-/// Parts a set by where the value is 0.
+/// Splits a set into the lanes in which the value is 0, and the others of the set.
 #[inline(always)]
 fn split(set: &LaneMask, values: &LaneValues) -> Parts
     ensures zeros { (lane : ℕ) → lane < LANES → slice_index result.zeros lane ≡

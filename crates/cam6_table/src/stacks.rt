@@ -40,7 +40,7 @@ impl Stack {
         }
     }
 
-    /// Puts a value on top. Returns `FullStack`, and changes nothing, if there is no room.
+    /// Puts a value on top. Returns `FullStack`, and changes nothing, if the stack has 32 values.
     pub fn push(&mut self, value: u16) -> Result<(), RuleFault>
         ensures { IsOutcome (pushed value self.old) self.new result }
     {
@@ -64,7 +64,7 @@ impl Stack {
         Ok(self.values[self.len])
     }
 
-    /// Puts a value on top. The caller has made sure that there is room.
+    /// Puts a value on top. The stack must have fewer than 32 values.
     pub fn push_unchecked(&mut self, value: u16)
         requires room { length self.old < MAX_VALUES }
         ensures { self.new ≡ value ∷ self.old }
@@ -97,7 +97,8 @@ impl Stack {
         }
     }
 
-    /// Puts a copy of the top value on top. Fails if there is no value, or no room.
+    /// Puts a copy of the top value on top. Returns `MissingValue` if the stack is empty, and
+    /// `FullStack` if it has 32 values.
     fn dup(&mut self) -> Result<(), RuleFault>
         ensures { IsOutcome (on_stack StackWord.Dup self.old) self.new result }
     {
@@ -125,8 +126,8 @@ impl Stack {
         Ok(())
     }
 
-    /// Puts a copy of the value below the top one on top. Fails if there are not two values, or no
-    /// room.
+    /// Puts a copy of the value below the top one on top. Returns `MissingValue` if there are not
+    /// two values, and `FullStack` if there are 32.
     fn over(&mut self) -> Result<(), RuleFault>
         ensures { IsOutcome (on_stack StackWord.Over self.old) self.new result }
     {
@@ -137,8 +138,8 @@ impl Stack {
         self.push(a)
     }
 
-    /// Moves the third value to the top, over the two that were above it. Fails if there are not
-    /// three values.
+    /// Moves the third value to the top, over the two that were above it. Returns `MissingValue` if
+    /// there are not three values.
     fn rot(&mut self) -> Result<(), RuleFault>
         ensures { IsOutcome (on_stack StackWord.Rot self.old) self.new result }
     {
@@ -151,8 +152,8 @@ impl Stack {
         Ok(())
     }
 
-    /// Replaces the top two values by their sum. Fails if there are not two, or if the sum is above
-    /// 65,535.
+    /// Replaces the top two values by their sum. Returns `MissingValue` if there are not two, and
+    /// `Range` if the sum is above 65,535.
     fn plus(&mut self) -> Result<(), RuleFault>
         ensures { IsOutcome (on_stack StackWord.Plus self.old) self.new result }
     {
@@ -165,8 +166,8 @@ impl Stack {
         Ok(())
     }
 
-    /// Replaces the top two values by the second one minus the top one. Fails if there are not two,
-    /// or if the difference is below 0.
+    /// Replaces the top two values by the second one minus the top one. Returns `MissingValue` if
+    /// there are not two, and `Range` if the difference is below 0.
     fn minus(&mut self) -> Result<(), RuleFault>
         ensures { IsOutcome (on_stack StackWord.Minus self.old) self.new result }
     {
@@ -179,8 +180,8 @@ impl Stack {
         Ok(())
     }
 
-    /// Replaces the top two values by their product. Fails if there are not two, or if the product
-    /// is above 65,535.
+    /// Replaces the top two values by their product. Returns `MissingValue` if there are not two,
+    /// and `Range` if the product is above 65,535.
     fn times(&mut self) -> Result<(), RuleFault>
         ensures { IsOutcome (on_stack StackWord.Times self.old) self.new result }
     {

@@ -15,8 +15,8 @@ use crate::spans::Span;
 use cam6_forth::StackWord;
 
 /// Does instructions in the lanes of a set, from the place where `from` are left until at most
-/// `stops_at` are left. Stops earlier at one at which lanes can part, or which can't be done in all
-/// of them. Returns how many are left.
+/// `stops_at` are left. Stops before one at which lanes can part, or which can't be done in all of
+/// them. Returns how many are left, and narrows the span to what holds then.
 #[inline(always)]
 pub fn run_straight(
     code: &Instructions,

@@ -67,8 +67,9 @@ fn run_flows(
     }
 }
 
-/// Runs the code in the lanes of a flow up to where others wait, while `steps` are left. Returns
-/// `NotInAllLanes` at an instruction that can't be done in all of its lanes.
+/// Runs the code in the lanes of a flow up to where others wait, while `steps` are left. `steps`
+/// falls by one for each instruction that the flow comes on. Returns `NotInAllLanes` at an
+/// instruction that can't be done in all of its lanes.
 fn run_flow(
     code: &Instructions,
     addresses: &LaneValues,
@@ -90,9 +91,9 @@ fn run_flow(
     Ok(())
 }
 
-/// Does instructions in the lanes of a flow up to where others wait. Or does them up to one at
-/// which lanes can part, and that one too. Returns `NotInAllLanes` at one that can't be done in all
-/// lanes.
+/// Does instructions in the lanes of a flow until `flow.stops_at` or fewer are left. Or does them
+/// up to one at which lanes can part, and that one too. More than `flow.stops_at` must be left
+/// before. Returns `NotInAllLanes` at one that can't be done in all lanes.
 #[inline(always)]
 fn advance(
     code: &Instructions,

@@ -63,8 +63,8 @@ impl LaneQueue {
         Some(self.waiting[len - 1])
     }
 
-    /// Adds a place in order. Does nothing if it is the end of the code, is in the queue already or
-    /// finds no room.
+    /// Adds a place in order. Does nothing if it is the end of the code, is in the queue already,
+    /// or the queue has 64 places.
     #[inline(always)]
     pub fn put(&mut self, new: LanesWaiting) {
         if new.remaining == 0 || self.len >= LANES {
@@ -94,7 +94,7 @@ impl LaneQueue {
         }
     }
 
-    /// Whether a place is in the queue already.
+    /// Whether a place is in the queue already. The queue must be in order.
     fn has_place(&self, new: LanesWaiting) -> bool {
         let len = self.len.min(LANES);
         for back in 1..len + 1 {
@@ -121,8 +121,8 @@ impl LaneQueue {
         }
     }
 
-    /// Adds a place as the one that goes on next, without a look at the others. Does nothing if
-    /// there is no room.
+    /// Adds a place as the one that goes on next, even if others have more instructions left. Does
+    /// nothing if there are 64 places.
     #[inline(always)]
     pub fn push(&mut self, new: LanesWaiting) {
         if self.len < LANES {
