@@ -15,8 +15,9 @@ pub(crate) const CORNERS: u8 = 4;
 /// States of a block.
 pub(crate) const STATES: u16 = 256;
 
-/// Returns the address that a corner of a block with this state sees. It sees its block on lines 0
-/// to 7. What it sees on the other lines doesn't depend on the state.
+/// Returns the address, of 12 bits, that a corner of a block with this state sees. It sees its
+/// block on lines 0 to 7. The other lines don't depend on the state. Corners 0 to 3 go clockwise
+/// from the upper left one. The hood must be a Margolus one.
 #[tactic(auto, unfolding(crate::specs::Blocks::corner_address))]
 pub(crate) fn corner_address(hood: Hood, minor: Minor, phase: Phase, state: u8, corner: u8) -> u16
     requires margolus { is_margolus hood ≡ true }
@@ -31,7 +32,7 @@ pub(crate) fn corner_address(hood: Hood, minor: Minor, phase: Phase, state: u8, 
 }
 
 /// Returns a corner's two bits in a block's state, as an entry has them. Bit 0 is the lower
-/// plane's.
+/// plane's, and bit 1 the upper one's. Corner 4 is corner 0 again.
 #[tactic(auto, unfolding(crate::specs::Blocks::corner_bits))]
 pub(crate) fn corner_bits(state: u8, corner: u8) -> u8
     ensures bits { result ≡ corner_bits state corner }
@@ -40,8 +41,9 @@ pub(crate) fn corner_bits(state: u8, corner: u8) -> u8
     bit_at(state, Level::Lower, corner) + 2 * bit_at(state, Level::Upper, corner)
 }
 
-/// Returns what a corner sees on lines 0 to 7, as a number. Its lowest bits are the corner's own
-/// two. Then come the other corners' lower bits, and then their upper ones.
+/// Returns what a corner, 0 to 3, sees on lines 0 to 7, as a number with line 0 as bit 0. First
+/// come the corner's own two bits, then the others' lower bits, and then their upper ones. The
+/// others are in the order of `bits_beside`.
 fn block_lines(state: u8, corner: u8) -> u8
     requires corner { corner < CORNERS }
     ensures { result ≡ number_of
@@ -56,8 +58,8 @@ fn block_lines(state: u8, corner: u8) -> u8
     corner_bits(state, corner) + 4 * lower + 32 * upper
 }
 
-/// Returns the bits that a corner sees clockwise, counter-clockwise and opposite in one plane, as a
-/// number. The first of them is its lowest bit.
+/// Returns the bits that a corner, 0 to 3, sees in one plane, as a number. Bit 0 is of the next
+/// corner clockwise, bit 1 of the next counter-clockwise, and bit 2 of the opposite one.
 fn bits_beside(state: u8, level: Level, corner: u8) -> u8
     requires corner { corner < CORNERS }
     ensures bits { result ≡ number_of
@@ -71,7 +73,8 @@ fn bits_beside(state: u8, level: Level, corner: u8) -> u8
     clockwise + 2 * counter_clockwise + 4 * opposite
 }
 
-/// Returns the bit that a block's state has at a corner in one plane, 0 or 1. Corner 4 is corner 0
+/// Returns the bit that a block's state has at a corner in one plane, 0 or 1. Bits 0 to 3 of the
+/// state are the lower plane's, by corner, and bits 4 to 7 the upper one's. Corner 4 is corner 0
 /// again.
 #[tactic(auto, unfolding(crate::specs::Blocks::corner_bit))]
 fn bit_at(state: u8, level: Level, corner: u8) -> u8
@@ -85,8 +88,8 @@ fn bit_at(state: u8, level: Level, corner: u8) -> u8
     state >> (corner % CORNERS + first) & 1
 }
 
-/// Returns what a corner sees on lines 8 and 9, as a number from 0 to 3: the phase, or its own
-/// column and row. It is 0 for hoods with neither of them there.
+/// Returns what a corner sees on lines 8 and 9, as a number from 0 to 3: the phase, or its column
+/// plus twice its row in the block. It is 0 for hoods with neither of them there. Line 8 is bit 0.
 fn hood_lines(hood: Hood, phase: Phase, corner: u8) -> u8
     ensures lines { result ≡ number_of (map (line_shows (corner_sees phase 0 corner))
         (drop 8 (hood_names hood))) }
@@ -99,8 +102,9 @@ fn hood_lines(hood: Hood, phase: Phase, corner: u8) -> u8
     }
 }
 
-/// Returns what a corner sees on lines 10 and 11, as a number from 0 to 3. It is 0 for the other
-/// half's centres, of which a block sees nothing.
+/// Returns what a corner sees on lines 10 and 11, as a number from 0 to 3: the phase, or its column
+/// plus twice its row in the block. Line 10 is bit 0. It is 0 for the other half's centres, of
+/// which a block sees nothing.
 fn minor_lines(minor: Minor, phase: Phase, corner: u8) -> u8
     ensures lines { result ≡ number_of (map (line_shows (corner_sees phase 0 corner))
         (minor_names minor)) }
@@ -113,7 +117,8 @@ fn minor_lines(minor: Minor, phase: Phase, corner: u8) -> u8
     }
 }
 
-/// Returns where a corner is in its block: 1 in the right column, plus 2 in the lower row.
+/// Returns where a corner is in its block: 1 in the right column or 0 in the left one, plus 2 in
+/// the lower row. Corner 4 is corner 0 again.
 fn column_and_row(corner: u8) -> u8
     ensures sides { result ≡ number_of (is_right corner ∷ is_low corner ∷ []) }
     ensures within { result < 4 }

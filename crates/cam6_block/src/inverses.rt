@@ -19,7 +19,8 @@ use cam6_wiring::{Hood, Minor, Phase};
 const PHASES: [Phase; 4] = [Phase::P0, Phase::P1, Phase::P2, Phase::P3];
 
 /// Writes to `out` the table that undoes what `table` does to blocks. If `table` is not reversible,
-/// returns the reason and leaves `out` unchanged. Does not allocate.
+/// returns the first reason and leaves `out` unchanged: no Margolus hood, the other half's centres
+/// as minor, or two block states with one successor. Does not allocate.
 pub fn invert(table: &Table, hood: Hood, minor: Minor, out: &mut Table) -> Result<(), NotReversible>
     ensures inverted { IfOk result (λ _.
         IsInverted (by_table hood minor table.now) hood minor out.new) }
@@ -59,7 +60,7 @@ fn keep_hidden_centres(out: &mut Table)
 }
 
 /// Writes to `out`, at each address that a corner sees, the bits that the corner had before the
-/// step by `table`.
+/// step by `table`. `table` must be reversible, and `out` be as `keep_hidden_centres` leaves it.
 fn fill_shown(table: &Table, hood: Hood, minor: Minor, out: &mut Table)
     requires margolus { is_margolus hood ≡ true }
     requires one_to_one { (phase : Phase) →

@@ -24,7 +24,7 @@ pub enum NotReversible {
 impl NotReversible {
     ghost use Rattle.cam6_block.specs.Refusals.{cause_number};
 
-    /// Returns the fault's number, as replies have it. It is the same for every cause.
+    /// Returns the fault's number, as replies have it: 64 for every cause.
     pub fn number(self) -> u8
         ensures { result ≡ cause_number self }
     {
@@ -40,7 +40,8 @@ pub(crate) struct Pair {
 }
 
 /// Finds the least state that has the same successor as a smaller one. Returns it as `b`, and the
-/// smaller one as `a`. Returns `None` if no two states have one successor.
+/// smaller one as `a`. Returns `None` if no two states have one successor. Only blocks at this
+/// phase count, and the hood must be a Margolus one.
 pub(crate) fn find_meeting(table: &Table, hood: Hood, minor: Minor, phase: Phase) -> Option<Pair>
     requires margolus { is_margolus hood ≡ true }
     ensures some { IfSome result (λ pair.

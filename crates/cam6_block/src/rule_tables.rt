@@ -15,10 +15,10 @@ use cam6_cycle::Direction;
 use cam6_table::{Code, ENTRIES, Table, fill};
 use cam6_wiring::Wiring;
 
-/// Fills `out` from a rule's code. Forward, it becomes the table of the rule. Backward, `forward`
-/// becomes that table, whatever it held before, and `out` its inverse. If no table undoes the
-/// rule's blocks, returns the reason, and `out` stays as it was. `out` gets its program here, and
-/// its copies have it too. Does not allocate.
+/// Fills `out` from a rule's code, which must stop at no address. Forward, it becomes the table of
+/// the rule, without fail. Backward, `forward` becomes that table, whatever it held before, and
+/// `out` its inverse. If no table undoes the rule's blocks, returns the reason and leaves `out`
+/// unchanged. Copies of `out` also have the program that it gets here. Does not allocate.
 pub fn fill_by(
     code: &Code,
     wiring: Wiring,
@@ -55,7 +55,7 @@ pub fn fill_by(
     }
 }
 
-/// Fills the table from code that stops at no address.
+/// Fills the table with the rule's entries from its code, which must stop at no address.
 fn fill_forward(code: &Code, table: &mut Table)
     requires runs { (address : ℕ) → address < addresses → IsOk (result_at code.now address) }
     ensures entries { AreEntries (result_at code.now) table.new }

@@ -12,7 +12,9 @@ use crate::corners::{CORNERS, corner_address};
 use cam6_table::Table;
 use cam6_wiring::{Hood, Minor, Phase};
 
-/// Returns the state that a block with this state gets by the table, at this phase.
+/// Returns the state that a block with this state gets by the table, at this phase. Bits 0 to 3 are
+/// of the lower plane, clockwise from the upper left corner, and bits 4 to 7 of the upper one. The
+/// hood must be a Margolus one.
 #[tactic(auto, unfolding(crate::specs::BlockMaps::block_map, crate::specs::Blocks::state_of))]
 pub(crate) fn successor(table: &Table, hood: Hood, minor: Minor, phase: Phase, state: u8) -> u8
     requires margolus { is_margolus hood ≡ true }
@@ -33,7 +35,8 @@ pub(crate) fn successor(table: &Table, hood: Hood, minor: Minor, phase: Phase, s
     lower_plane + 16 * upper_plane
 }
 
-/// Returns the table's entry for a corner of a block with this state: the corner's two new bits.
+/// Returns the table's entry for a corner, 0 to 3, of a block with this state. Bit 0 is the
+/// corner's new lower bit, bit 1 the upper one. The hood must be a Margolus one.
 #[tactic(auto, unfolding(crate::specs::Blocks::corner_address))]
 fn new_bits(table: &Table, hood: Hood, minor: Minor, phase: Phase, state: u8, corner: u8) -> u8
     requires margolus { is_margolus hood ≡ true }
@@ -43,7 +46,7 @@ fn new_bits(table: &Table, hood: Hood, minor: Minor, phase: Phase, state: u8, co
     table.at(corner_address(hood, minor, phase, state, corner))
 }
 
-/// Returns bit 0 of an entry, the new bit of the lower plane.
+/// Returns bit 0 of an entry, the new bit of the lower plane, as 0 or 1.
 fn lower_bit(bits: u8) -> u8
     ensures bit { result ≡ number_of (bit_for Lower bits ∷ []) }
     ensures within { result < 2 }
@@ -51,7 +54,7 @@ fn lower_bit(bits: u8) -> u8
     bits % 2
 }
 
-/// Returns bit 1 of an entry, the new bit of the upper plane.
+/// Returns bit 1 of an entry, the new bit of the upper plane, as 0 or 1.
 fn upper_bit(bits: u8) -> u8
     ensures bit { result ≡ number_of (bit_for Upper bits ∷ []) }
     ensures within { result < 2 }
