@@ -112,7 +112,7 @@ impl MidStep {
     }
 
     /// Makes the next sixteen rows in place, by the tables of the step. They must not be the last
-    /// ones of the image.
+    /// ones of the image. The scratch may hold anything.
     pub fn go_on(&mut self, tables: &EntryTables, scratch: &mut Scratch)
         requires { self.old.done + band < width self.old.planes }
         ensures partway { let s = width self.old.planes in (o : Cells) →
@@ -132,7 +132,8 @@ impl MidStep {
         self.done += BAND;
     }
 
-    /// Makes the last sixteen rows, by the tables of the step, and returns the whole image.
+    /// Makes the last sixteen rows, by the tables of the step, and returns the whole image. All
+    /// other rows must be new already. The scratch may hold anything.
     pub fn end(mut self, tables: &EntryTables, scratch: &mut Scratch) -> AtRest
         requires { self.done + band ≡ width self.planes }
         ensures planes { let s = width self.planes in (o : Cells) →
@@ -157,8 +158,9 @@ impl MidStep {
         AtRest { planes: image }
     }
 
-    /// Copies the image of a step into another one, where the step goes on. Returns the step, and
-    /// its old image as a spare one.
+    /// Copies the image of a step into a spare one, where the step goes on. The spare one's limit
+    /// must be at least the step's side. Returns the step, with that limit, and its old image as a
+    /// spare one.
     pub fn move_into(self, spare: Spare) -> (MidStep, Spare)
         requires { width self.planes ≤ side_number spare.planes.limit }
         ensures partway { (o p : Cells) → Partway o p self → Partway o p result.0 }

@@ -41,8 +41,8 @@ impl PlaneRows {
         }
     }
 
-    /// Writes the rows to plane `p` of the image, from row `y` on. If they are marked as not
-    /// written, changes nothing.
+    /// Writes the sixteen rows to plane `p`, from 0 to 3, of the image, from row `y` on. If they
+    /// are marked as not written, changes nothing. All of them must be within the side.
     fn put(&self, image: &mut Planes, p: usize, y: usize)
         requires plane { p < 4 }
         requires rows { y + band ≤ width image.old }
@@ -69,8 +69,9 @@ impl HalfRows {
         }
     }
 
-    /// Makes a half's new rows of a band, by the half's table. If it marks a plane's rows as not
-    /// written, each of their cells keeps its bit.
+    /// Makes a half's sixteen new rows of a band, by the half's table, and changes no image. If it
+    /// marks a plane's rows as not written, each of their cells keeps its bit. The band must lie
+    /// within the side.
     pub(crate) fn make(
         &mut self,
         scratch: &mut TableScratch,
@@ -92,8 +93,8 @@ impl HalfRows {
         self.upper.is_written = written.upper;
     }
 
-    /// Writes the rows to the half's planes of the image, from row `y` on. A plane whose rows are
-    /// marked as not written stays as it is.
+    /// Writes the sixteen rows to the half's planes of the image, from row `y` on. A plane whose
+    /// rows are marked as not written stays as it is. All of them must be within the side.
     pub(crate) fn put(&self, image: &mut Planes, half: Half, y: usize)
         requires { y + band ≤ width image.old }
         ensures half { (level : Level) (x r : ℕ) → x < width image.old → r < band →
@@ -113,8 +114,8 @@ impl HalfRows {
     }
 }
 
-/// Writes a band's rows to plane `p` of the image, from row `y` on. Each side has a loop of its
-/// own, compiled for its length of rows.
+/// Writes a band's sixteen rows to plane `p` of the image, from row `y` on. All of them must be
+/// within the side. Each side has a loop of its own, compiled for its length of rows.
 fn put_rows(image: &mut Planes, p: usize, y: usize, rows: &BandRows)
     requires plane { p < 4 }
     requires rows { y + band ≤ width image.old }
@@ -132,8 +133,8 @@ fn put_rows(image: &mut Planes, p: usize, y: usize, rows: &BandRows)
     }
 }
 
-/// Writes a band's rows to plane `p` of an image of this side, from row `y` on. The caller gives
-/// the side as a constant, so that the loop is compiled for it.
+/// Writes a band's sixteen rows to plane `p` of the image, from row `y` on. `side` must be the
+/// image's. The caller gives it as a constant, so that the loop is compiled for it.
 #[inline(always)]
 fn put_rows_at(image: &mut Planes, side: Side, p: usize, y: usize, rows: &BandRows)
     requires side { side ≡ image.old.side }

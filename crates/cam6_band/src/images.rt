@@ -87,7 +87,7 @@ impl Spare {
         self.planes.limit()
     }
 
-    /// Gives up the image, and returns its planes. What they hold doesn't matter.
+    /// Gives up the image, and returns its planes. Nothing is promised of their bits.
     pub fn into_planes(self) -> Planes
         ensures { result ≡ self.planes }
     {

@@ -17,10 +17,10 @@ use cam6_lines::{Band, HEIGHT};
 use cam6_planes::{CellRow, Planes};
 use cam6_wiring::{Half, Setting};
 
-/// Writes the sixteen new rows from row `y` on over the old ones. `last` has the old row to their
-/// north, and gets the last of the sixteen old ones. `first` is the old row 0, which the last row
-/// sees to its south. A half's new rows may depend on the other half's old ones, so both are made
-/// before any is written.
+/// Writes the sixteen new rows from row `y` on over the old ones, all within the side. `last` has
+/// the old row to their north, and gets the last of the sixteen old ones. `first` is the old row 0,
+/// which the last row sees to its south. Both halves' rows are made before any is written, as each
+/// may depend on the other's old ones.
 pub(crate) fn step_band(
     image: &mut Planes,
     last: &mut CellRow,
@@ -145,8 +145,8 @@ fn step_half_by_table(
     scratch.rows.put(image, setting.half, y);
 }
 
-/// Returns the band of the sixteen old rows from row `y` on, with the row `last` to their north and
-/// the one to their south.
+/// Returns the band of the sixteen old rows from row `y` on, with the row `last` to their north.
+/// The row to their south is the image's next one, or `first` if there is none.
 fn old_rows<'a>(image: &'a Planes, last: &'a CellRow, first: &'a CellRow, y: usize) -> Band<'a>
     requires { y + band ≤ width image.now }
     ensures rows { (f : Cells) →

@@ -11,7 +11,8 @@ use cam6_cycle::{Cycle, Direction, Entry, HalfRule};
 use cam6_entries::Table;
 
 /// Returns the tables that a step in this direction from a position uses, and the position after
-/// the step. `tables` has those that the cycle needs, one for each use of a rule, in their order.
+/// the step. `tables` has 32 tables: first those that the cycle needs, one for each use of a rule,
+/// in their order. Positions are counted from 0, and below the number of entries.
 pub fn tables_of_step<'a>(
     cycle: &Cycle,
     position: usize,
@@ -35,7 +36,7 @@ pub fn tables_of_step<'a>(
 }
 
 /// Returns an entry's tables, which are in `tables` from the index on, half A's before half B's. A
-/// half without a rule has none, and takes no place.
+/// half without a rule has none, and takes no place. Two tables must be there.
 fn tables_from<'a>(entry: Entry, index: usize, tables: &'a [Table]) -> EntryTables<'a>
     requires room { index + 2 ≤ length tables.now }
     ensures { values_of result ≡ tables_from index entry tables.now }
