@@ -15,7 +15,7 @@ pub const COLOURS: usize = COLUMNS;
 
 /// Writes the colour of each cell of row `y` to `colours`, from column 0 on. Returns how many there
 /// are, which is the side. Later places of `colours` stay as they were. `map` has the colour of
-/// each state.
+/// each state, in which bit k is plane k's. Row `y` is below the side.
 pub fn colour_row(rest: &AtRest, map: &[u8; 16], y: usize, colours: &mut [u8; COLOURS]) -> usize
     requires row { y < width rest.now.planes }
     ensures count { result ≡ width rest.now.planes }
@@ -33,6 +33,7 @@ pub fn colour_row(rest: &AtRest, map: &[u8; 16], y: usize, colours: &mut [u8; CO
 }
 
 /// Returns the state of the cell at column `x` of a row, from 0 to 15. Bit k is that of plane k.
+/// `x` is below 512.
 fn state_in_row(rows: &CellRow, x: usize) -> usize
     requires { x < 64 * WORDS }
     ensures value { result ≡ state_in_row rows.now x }
@@ -44,7 +45,7 @@ fn state_in_row(rows: &CellRow, x: usize) -> usize
         + 8 * bit_in_row(&rows[3], x)
 }
 
-/// Returns the bit of a plane's row at column `x`, as 0 or 1.
+/// Returns the bit of a plane's row at column `x`, below 512, as 0 or 1.
 fn bit_in_row(row: &Row, x: usize) -> usize
     requires { x < 64 * WORDS }
     ensures value { result ≡ bit_number (column_bit row.now x) }

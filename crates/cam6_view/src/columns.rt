@@ -7,8 +7,8 @@ ghost use Rattle.cam6_view.specs.Internal.{AreSpread, lower_state, state_in_word
 
 use cam6_planes::{CellRow, WORDS, chosen_word, word_of};
 
-/// Returns for each state a word of 64 columns. All bits are 1 if the mask has the state's bit, and
-/// 0 if it hasn't.
+/// Returns for each state, by its number, a word of 64 columns. All bits are 1 if the mask has the
+/// state's bit, and 0 if it hasn't. Bit 0 of the mask is for state 0.
 pub(crate) fn spread(mask: u16) -> [u64; 16]
     ensures { AreSpread mask result }
 {
@@ -19,7 +19,7 @@ pub(crate) fn spread(mask: u16) -> [u64; 16]
     sets
 }
 
-/// Returns a word whose 64 bits are all the mask's bit of this state.
+/// Returns a word whose 64 bits are all the mask's bit of this state, from 0 to 15.
 fn spread_bit(mask: u16, state: u16) -> u64
     requires { state < 16 }
     ensures { (c : ℕ) → c < 64 → word_column result c ≡ is_in mask state }
@@ -27,7 +27,8 @@ fn spread_bit(mask: u16, state: u16) -> u64
     word_of(mask >> state & 1 == 1)
 }
 
-/// Returns a row's columns `64 * k` to `64 * k + 63`, as one word for each plane.
+/// Returns a row's columns `64 * k` to `64 * k + 63`, as one word for each plane. The highest bit
+/// is the first column. `k` is from 0 to 7.
 pub(crate) fn words_of(rows: &CellRow, k: usize) -> [u64; 4]
     requires { k < WORDS }
     ensures { (c : ℕ) → c < 64 → state_in_words result c ≡ state_in_row rows.now (64 * k + c) }
@@ -36,7 +37,7 @@ pub(crate) fn words_of(rows: &CellRow, k: usize) -> [u64; 4]
 }
 
 /// Returns a word that has at each of 64 columns the bit of `sets[state]` there, for the state of
-/// the column's cell. `words` has the columns of each plane.
+/// the column's cell. `words` has the columns of each plane, as `words_of` returns them.
 pub(crate) fn select_by_state(words: &[u64; 4], sets: &[u64; 16]) -> u64
     ensures { (c : ℕ) → c < 64 → word_column result c
         ≡ word_column (slice_index sets.now (state_in_words words.now c)) c }
@@ -55,7 +56,7 @@ pub(crate) fn select_by_state(words: &[u64; 4], sets: &[u64; 16]) -> u64
 }
 
 /// Returns a word that has at each of 64 columns the bit of `sets[first + n]` there. `n`, from 0 to
-/// 3, is the column's bit of plane 0 plus twice that of plane 1.
+/// 3, is the column's bit of plane 0 plus twice that of plane 1. `first` is at most 12.
 fn select_by_lower_planes(words: &[u64; 4], sets: &[u64; 16], first: usize) -> u64
     requires { first + 4 ≤ 16 }
     ensures { (c : ℕ) → c < 64 → word_column result c

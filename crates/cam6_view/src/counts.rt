@@ -10,7 +10,8 @@ use crate::columns::{select_by_state, spread, words_of};
 use cam6_band::AtRest;
 use cam6_planes::{CellRow, WORDS};
 
-/// Returns how many cells of the image have a state whose bit is set in the mask.
+/// Returns how many cells of the image have a state whose bit is set in the mask. Bit 0 is for
+/// state 0.
 pub fn count(rest: &AtRest, mask: u16) -> u32
     ensures { result ≡ count_of (width rest.now.planes) (cells rest.now.planes) mask }
 {
@@ -24,8 +25,8 @@ pub fn count(rest: &AtRest, mask: u16) -> u32
     total
 }
 
-/// Returns how many cells of the first `words` words of a row have a state of the sets. `sets` is
-/// the mask's, as `spread` makes it.
+/// Returns how many cells of the first `words` words of a row, at most 8 words of 64 columns, have
+/// a state of the sets. `sets` is the mask's, as `spread` makes it.
 fn count_in_row(rows: &CellRow, sets: &[u64; 16], words: usize) -> u32
     requires { words ≤ WORDS }
     ensures value { (mask : ℕ) → AreSpread mask sets.now →
