@@ -76,8 +76,8 @@ impl Model for RowNumber {
 }
 
 impl RowNumber {
-    /// Returns the row with this number in a torus of this side. Returns `OutOfRange` if there is
-    /// no such row.
+    /// Returns the row with this number, from 0 to below the side, in a torus of this side. Returns
+    /// `OutOfRange` if there is no such row.
     pub fn of(side: Side, number: u64) -> Result<RowNumber, Fault>
         ensures refusal { result_err result ≡ row_refusal side number }
         ensures value { IfOk result (λ row. row ≡ record { side = side; number = number }) }
@@ -117,8 +117,8 @@ impl Model for Mask {
 }
 
 impl Mask {
-    /// Returns the set of states with this mask, from 0 to 65,535. Returns `OutOfRange` if the
-    /// number is larger.
+    /// Returns the set of states with this mask, from 0 to 65,535, in which bit 0 is for state 0.
+    /// Returns `OutOfRange` if the number is larger.
     pub fn of(number: u64) -> Result<Mask, Fault>
         ensures refusal { result_err result ≡ mask_refusal number }
         ensures value { IfOk result (λ mask. mask ≡ number) }

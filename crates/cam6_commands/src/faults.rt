@@ -24,7 +24,7 @@ pub enum Fault {
 }
 
 impl Fault {
-    /// Returns the fault's number, as replies have it.
+    /// Returns the fault's number, as replies have it: 60 to 63, or 65 to 68.
     pub fn number(self) -> u8
         ensures { result ≡ fault_number self }
     {

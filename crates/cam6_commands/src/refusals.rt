@@ -30,7 +30,8 @@ pub enum Refusal {
 }
 
 impl Refusal {
-    /// Returns the number of the fault, as replies have it.
+    /// Returns the number of the fault, as replies have it. Addresses, entries and halves are no
+    /// part of it.
     pub fn number(self) -> u8
         ensures { result ≡ refusal_number self }
     {

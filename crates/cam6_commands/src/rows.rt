@@ -32,7 +32,8 @@ impl Model for RowText {
 }
 
 impl RowText {
-    /// Returns the text of row `y` of plane `p`: a hexadecimal digit for each four columns.
+    /// Returns the text of row `y` of plane `p`: a lower case hexadecimal digit for each four
+    /// columns, from column 0 on. Plane `p` is from 0 to 3, and row `y` below the side.
     pub fn of(planes: &Planes, p: usize, y: usize) -> RowText
         requires plane { p < 4 }
         requires row { y < width planes.now }
@@ -43,7 +44,8 @@ impl RowText {
         RowText { digits, text }
     }
 
-    /// Lends the hexadecimal digits in ASCII. Those of the lowest columns come first.
+    /// Lends the hexadecimal digits in ASCII, one for each four columns. Those of the lowest
+    /// columns come first.
     pub fn as_slice(&self) -> &[u8]
         ensures digits { result.now ≡ self.now }
         ensures ascii { IsAscii result.now }
@@ -78,7 +80,8 @@ impl RowColours {
     ghost use Rattle.std.specs.Prelude.{◌≡◌, length};
     ghost use Rattle.cam6_planes.specs.declared.row.TheConstants.{COLUMNS};
 
-    /// Returns a row of the first `count` of these colours.
+    /// Returns a row of the first `count` of these colours, from column 0 on. `count` is at most
+    /// 512, and each of these colours at most 15.
     pub fn new(count: usize, colours: [u8; COLUMNS]) -> RowColours
         requires count { count ≤ COLUMNS }
         requires colours { AllByRecursion (λ colour. colour ≤ max_colour) (take count colours) }
@@ -87,7 +90,7 @@ impl RowColours {
         RowColours { count, colours }
     }
 
-    /// Lends the colours of the row, 0 to 15, from column 0 on.
+    /// Lends the colours of the row, each from 0 to 15, from column 0 on.
     pub fn as_slice(&self) -> &[u8]
         ensures value { result.now ≡ self.now }
         ensures few { length result.now ≤ COLUMNS }

@@ -61,7 +61,7 @@ impl Text {
     }
 }
 
-/// Whether each of the bytes can be in a rule's name.
+/// Whether each of the bytes can be in a rule's name. Their number doesn't matter.
 fn are_name_bytes(bytes: &[u8]) -> bool
     ensures { result ≡ list_all is_name_byte bytes.now }
 {
