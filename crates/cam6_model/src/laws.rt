@@ -8,7 +8,8 @@ ghost use Rattle.cam6_model.specs.Laws.{BackGivesTheMachineBack, BackNeedsRevers
 ghost use Rattle.cam6_model.specs.Laws.{LoadGivesBack, LoadTakesSaved, SavedOfOne};
 ghost use Rattle.cam6_model.specs.Laws.{LoadedAnswersAlike, RecoveryIsExact, RecoveriesAreExact};
 
-/// A step of an entry by the true tables of its rules is the step by the rules' words.
+/// A step of an entry by the true tables of its rules, on a torus of any side, is the step by the
+/// rules' words.
 pub fn true_tables_step_as_words_do()
     ensures law { TrueTablesStep }
 {}
@@ -18,7 +19,8 @@ pub fn a_half_without_a_rule_keeps_its_planes()
     ensures law { KeepsItsPlanes }
 {}
 
-/// Some steps in a direction, and then more, are the steps of both numbers together.
+/// Steps of a first number in a direction, and then steps of a second number, are the steps of both
+/// numbers together.
 pub fn steps_add_up()
     ensures law { StepsAddUp }
 {}
@@ -29,17 +31,17 @@ pub fn steps_change_planes_and_position_alone()
 {}
 
 /// Each step moves the position by one, round the cycle: up if it is done, and down if it is
-/// undone.
+/// undone. The position must be one of the cycle's before.
 pub fn the_position_goes_round()
     ensures law { PositionGoesRound }
 {}
 
-/// A blank machine of any limit has the invariant of a machine (`specs/Always.antt`).
+/// A blank machine of any limit is a machine: it has the invariant of `specs/Always.antt`.
 pub fn the_blank_machine_is_one()
     ensures law { BlankIsMachine }
 {}
 
-/// A machine has its invariant after any command whose rule texts are UTF-8.
+/// A machine still has its invariant after any command whose rule texts are UTF-8, accepted or not.
 pub fn a_machine_stays_one()
     ensures law { StaysMachine }
 {}
@@ -54,8 +56,8 @@ pub fn the_limit_stays()
     ensures law { LimitStays }
 {}
 
-/// A step by rules that see only their blocks changes each block of the grid as a whole. The side
-/// must be even.
+/// A step by rules that see only their blocks changes each block of the entry's grid as a whole.
+/// The side must be even, and the rules stop nowhere.
 pub fn a_step_changes_blocks()
     ensures law { StepChangesBlocks }
 {}
@@ -97,7 +99,7 @@ pub fn a_load_gives_the_saved_machine_back()
 {}
 
 /// A machine loads nothing but what a save returns: what is loaded without a refusal is what the
-/// loaded machine saves.
+/// loaded machine saves. Its bits must be bytes, and its rule texts UTF-8.
 pub fn a_load_takes_nothing_else()
     ensures law { LoadTakesSaved }
 {}
