@@ -40,7 +40,7 @@ impl CompiledRule {
     ghost use Rattle.cam6_block.specs.RuleTables.{IsTableBy};
     ghost use Rattle.cam6_cycle.specs.declared.tables.Direction.TheVariants.{Backward};
 
-    /// Makes the rule of a text. `code` must be the code of that text.
+    /// Makes the rule of a text. `code` must be the code of that text for this wiring.
     pub(crate) fn new(wiring: Wiring, text: Text, code: Code) -> CompiledRule
         requires { IsCodeFor wiring text code }
         ensures { result ≡ record { wiring = wiring; text = text; code = code } }
@@ -70,9 +70,9 @@ impl CompiledRule {
         &self.code
     }
 
-    /// Fills `table` for steps in a direction. Forward, it becomes the table of the rule. Backward,
-    /// `forward` becomes that table, whatever it held before, and `table` its inverse. If the rule
-    /// can't be undone, returns why.
+    /// Fills `table` for steps in a direction. Forward, it becomes the table of the rule, without
+    /// fail. Backward, `forward` becomes that table, whatever it held before, and `table` its
+    /// inverse. If the rule can't be undone, returns why.
     pub(crate) fn fill_by(
         &self,
         direction: Direction,
@@ -89,8 +89,9 @@ impl CompiledRule {
     }
 }
 
-/// Compiles a rule's text, and tries it at every address. Returns the rule, or why the text is
-/// none. `scratch` lends memory for the trial, and stays as it was.
+/// Compiles a rule's text, and tries it at every address. Returns the rule. Otherwise returns the
+/// text's first fault, the least address at which the rule stops, or `NoMemory`. `scratch` lends
+/// memory for the trial, and its tables and marks stay.
 pub(crate) fn compile_rule(
     alloc: Global,
     wiring: Wiring,

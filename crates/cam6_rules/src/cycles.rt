@@ -14,7 +14,7 @@ use cam6_cycle::{Cycle, Entry, HalfRule, MAX_ENTRIES};
 use cam6_wiring::Phase;
 use indexmap::IndexMap;
 
-/// Returns the entries of a cycle, or none if no cycle is set.
+/// Returns the entries of a cycle, at most 16, or an empty slice if no cycle is set.
 pub fn entries_of(cycle: &Option<Cycle>) -> &[Entry]
     ensures entries { result.now ≡ entries_of cycle.now }
     ensures few { length result.now ≤ max_entries }
@@ -25,8 +25,8 @@ pub fn entries_of(cycle: &Option<Cycle>) -> &[Entry]
     }
 }
 
-/// Returns the cycle of these entries, in which rules stand by their numbers instead of their
-/// names.
+/// Returns the cycle of these entries, 1 to 16, in which rules stand by their numbers instead of
+/// their names. Numbers count the rules from 0. A half whose name no rule has gets no rule.
 pub(crate) fn numbered_cycle(
     rules: &IndexMap<String, CompiledRule>,
     entries: &[NamedEntry],
@@ -45,8 +45,8 @@ pub(crate) fn numbered_cycle(
     }
 }
 
-/// Returns the cycle after the rule at a number is dropped: each later rule has a number less by
-/// one. Returns `None` if there are no entries.
+/// Returns the cycle after the rule at a number is dropped: in each half, a rule with a greater
+/// number has a number less by one. Returns `None` if there are no entries. There are at most 16.
 pub(crate) fn renumbered_cycle(cycle: &[Entry], number: usize) -> Option<Cycle>
     requires { length cycle.now ≤ max_entries }
     ensures { entries_of result ≡ map (closed_entry number) cycle.now }
@@ -58,8 +58,8 @@ pub(crate) fn renumbered_cycle(cycle: &[Entry], number: usize) -> Option<Cycle>
     Cycle::new(closed.as_slice()).ok()
 }
 
-/// Returns an entry after the rule at a number is dropped: each later rule has a number less by
-/// one.
+/// Returns an entry after the rule at a number is dropped: in each half, a rule with a greater
+/// number has a number less by one. Grid and phase stay.
 fn renumbered_entry(entry: Entry, number: usize) -> Entry
     ensures { result ≡ closed_entry number entry }
 {
@@ -71,8 +71,8 @@ fn renumbered_entry(entry: Entry, number: usize) -> Entry
     }
 }
 
-/// Returns a half's rule after the rule at a number is dropped: a later rule has a number less by
-/// one.
+/// Returns a half's rule after the rule at a number is dropped: a greater number is less by one,
+/// and any other stays. Returns `None` for a half without a rule.
 fn renumbered_half(rule: Option<HalfRule>, number: usize) -> Option<HalfRule>
     ensures { result ≡ closed_half number rule }
 {
@@ -89,8 +89,8 @@ fn renumbered_half(rule: Option<HalfRule>, number: usize) -> Option<HalfRule>
     })
 }
 
-/// Returns an entry with the numbers of the rules that it names. A half has no rule if no rule has
-/// its name.
+/// Returns an entry with the numbers of the rules that it names, counted from 0. A half has no rule
+/// if it names none, or if no rule has its name. A phase above 3 becomes 3.
 fn numbered_entry(rules: &IndexMap<String, CompiledRule>, entry: &NamedEntry) -> Entry
     ensures { result ≡ numbered_entry (rules_of rules.now.entries) entry.now }
 {
@@ -102,8 +102,8 @@ fn numbered_entry(rules: &IndexMap<String, CompiledRule>, entry: &NamedEntry) ->
     }
 }
 
-/// Returns the rule at a number with its hood and minor assignment. Returns `None` without a
-/// number, or if no rule is at it.
+/// Returns the rule at a number, counted from 0, with its hood and minor assignment. Returns `None`
+/// without a number, or if no rule is at it.
 fn half_rule_at(rules: &IndexMap<String, CompiledRule>, number: Option<usize>) -> Option<HalfRule>
     ensures { result ≡ half_rule_at (rules_of rules.now.entries) number }
 {
@@ -115,8 +115,8 @@ fn half_rule_at(rules: &IndexMap<String, CompiledRule>, number: Option<usize>) -
     })
 }
 
-/// Returns the number of the rule with this name. Returns `None` without a name, or if no rule has
-/// it.
+/// Returns the number of the rule with this name, counted from 0. Returns `None` without a name, or
+/// if no rule has it.
 fn number_if_named(rules: &IndexMap<String, CompiledRule>, name: &Option<Text>) -> Option<usize>
     ensures { result ≡ number_if_named (rules_of rules.now.entries) name.now }
 {

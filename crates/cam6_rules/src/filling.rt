@@ -21,9 +21,9 @@ use cam6_cycle::{Cycle, Direction, Entry, HalfRule, NeededTable};
 use cam6_table::Table;
 use cam6_wiring::Half;
 
-/// Fills the tables that a cycle needs for steps in a direction. If rules can't be undone, returns
-/// why the first of them can't. The first is by the order of the entries, and half A's is before
-/// half B's. `forward` is scratch for a table to invert, and may hold anything.
+/// Fills the tables that a cycle needs for steps in a direction, in their order. `tables` has 32.
+/// Backward, if rules can't be undone, returns the entry, half and cause of the first of them, half
+/// A before half B. `forward` is scratch for a table to invert, and may hold anything.
 pub(crate) fn fill_entries(
     rules: &Rules,
     cycle: &Cycle,
@@ -62,8 +62,9 @@ fn irreversible_refusal(entry: usize, half: Half, cause: NotReversible) -> Refus
     Refusal::NotReversible { entry, half, cause }
 }
 
-/// Fills the table at `index` in `tables` for a half's rule. If the half has no rule, does nothing.
-/// If the rule can't be undone, returns why.
+/// Fills the table at `index` in `tables` for a half's rule, the one that `needed` has there. If
+/// the half has no rule, does nothing. If the rule can't be undone backward, returns why. All
+/// tables before `index` must be filled.
 fn fill_half(
     rules: &Rules,
     needed: &[NeededTable],
@@ -91,7 +92,8 @@ fn fill_half(
 }
 
 /// Fills the table at `index` in `tables` for the rule that `needed` has there. If an earlier table
-/// is of the same rule, copies that one. If the rule can't be undone, returns why.
+/// is of the same rule, copies that one. If the rule can't be undone backward, returns why. All
+/// tables before `index` must be filled.
 fn fill_use(
     rules: &Rules,
     needed: &[NeededTable],
@@ -120,16 +122,16 @@ fn fill_use(
     }
 }
 
-/// Returns the index of the first of these tables that is of the rule at a number, or `None` if
-/// none of them is.
+/// Returns the index of the first of these tables that is of the rule at a number, counted from 0.
+/// Returns `None` if none of them is.
 fn first_use(needed: &[NeededTable], number: usize) -> Option<usize>
     ensures { IfSome result (λ first. IsUse number (slice_get needed.now first)) }
 {
     needed.iter().position(|table| table.rule.number == number)
 }
 
-/// Fills `table` for the rule at this number. If the rule can't be undone, returns why. If there is
-/// no such rule, `table` stays as it was.
+/// Fills `table` for the rule at this number, counted from 0, and steps in a direction. If the rule
+/// can't be undone backward, returns why. If there is no such rule, `table` stays as it was.
 fn fill_table(
     rules: &Rules,
     number: usize,

@@ -11,7 +11,8 @@ use cam6_wiring::Wiring;
 use indexmap::IndexMap;
 use std::alloc::Global;
 
-/// Returns the number of the rule that has the name, or `None` if no rule has it.
+/// Returns the number of the rule that has the name, counted from 0 in their order. Returns `None`
+/// if no rule has it.
 pub(crate) fn rule_number(rules: &IndexMap<String, CompiledRule>, name: &Text) -> Option<usize>
     ensures { result ≡ rule_number name.now (rules_of rules.now.entries) }
 {
@@ -29,8 +30,8 @@ pub(crate) fn wiring_of(rules: &IndexMap<String, CompiledRule>, name: &Text) -> 
     }
 }
 
-/// Returns what the rule at a number is written for: half, hood and minor assignment. Returns
-/// `None` without a number, or if no rule is at it.
+/// Returns what the rule at a number, counted from 0, is written for: half, hood and minor
+/// assignment. Returns `None` without a number, or if no rule is at it.
 pub(crate) fn wiring_at(
     rules: &IndexMap<String, CompiledRule>,
     number: Option<usize>,
@@ -49,7 +50,8 @@ pub(crate) fn remove(rules: &mut IndexMap<String, CompiledRule>, name: &Text)
     rules.shift_remove(name.as_str());
 }
 
-/// Returns copies of the rules' names, in the order of the rules.
+/// Returns copies of the rules' names, in the order of the rules. Returns `NoMemory` only if an
+/// allocation fails. No rules need no memory.
 pub(crate) fn names_of(
     alloc: Global,
     rules: &IndexMap<String, CompiledRule>,

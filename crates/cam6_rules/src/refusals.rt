@@ -20,8 +20,9 @@ use cam6_cycle::{Entry, HalfRule, MAX_ENTRIES};
 use cam6_wiring::Half;
 use indexmap::IndexMap;
 
-/// Accepts the definition of a rule under a name. Returns the fault if the name can't be a rule's,
-/// the cycle uses a rule of that name, or there is no room for a new one.
+/// Accepts the definition of a rule under a name. Returns `OutOfRange` if the name can't be a
+/// rule's, `RuleInUse` if the cycle uses a rule of that name, and `TooManyRules` if it is new and
+/// there are 16 rules. The text isn't looked at.
 pub(crate) fn accept_rule(
     rules: &IndexMap<String, CompiledRule>,
     cycle: &[Entry],
@@ -42,8 +43,8 @@ pub(crate) fn accept_rule(
     }
 }
 
-/// Returns the number of the rule that has the name, if it can be dropped. Returns the fault if no
-/// rule has the name, or if the cycle uses it.
+/// Returns the number of the rule that has the name, counted from 0, if it can be dropped. Returns
+/// `NoRule` if no rule has the name, and `RuleInUse` if the cycle uses it.
 pub(crate) fn accept_drop(
     rules: &IndexMap<String, CompiledRule>,
     cycle: &[Entry],
@@ -87,8 +88,9 @@ fn is_number(number: usize, rule: Option<HalfRule>) -> bool
     }
 }
 
-/// Accepts the entries of a cycle. Returns the fault if there isn't 1 to 16 of them, or one has no
-/// phase from 0 to 3. So it does if one names a rule that isn't there, or isn't of this half.
+/// Accepts the entries of a cycle. Returns `OutOfRange` if there isn't 1 to 16 of them, or one has
+/// a phase above 3. Otherwise returns the fault of the first half whose name no rule has
+/// (`NoRule`), or a rule of the other half (`WrongHalf`).
 pub(crate) fn accept_cycle(
     rules: &IndexMap<String, CompiledRule>,
     entries: &NamedEntries,
@@ -113,15 +115,15 @@ fn is_named_cycle(entries: &[NamedEntry]) -> bool
     !entries.is_empty() && entries.len() <= MAX_ENTRIES && have_phases(entries)
 }
 
-/// Whether each entry has a phase from 0 to 3.
+/// Whether each entry has a phase from 0 to 3. How many entries there are doesn't matter.
 fn have_phases(entries: &[NamedEntry]) -> bool
     ensures { result ≡ have_phases entries.now }
 {
     entries.iter().all(|entry| entry.phase < 4)
 }
 
-/// Accepts the rules that entries name. Returns the fault of the first entry that names a rule that
-/// isn't there, or isn't of the half for which it is named.
+/// Accepts the rules that entries name. Returns the first fault, by entry, half A first: `NoRule`
+/// if no rule has the name, and `WrongHalf` if one of the other half has it.
 fn accept_entries(
     rules: &IndexMap<String, CompiledRule>,
     entries: &[NamedEntry],
@@ -134,8 +136,8 @@ fn accept_entries(
     Ok(())
 }
 
-/// Accepts the rules that an entry names. Returns the fault of the first half that names a rule
-/// that isn't there, or isn't of this half. Half A comes first.
+/// Accepts the rules that an entry names. Returns the first fault, half A first: `NoRule` if no
+/// rule has the name, and `WrongHalf` if one of the other half has it.
 fn accept_entry(rules: &IndexMap<String, CompiledRule>, entry: &NamedEntry) -> Result<(), Fault>
     ensures { result_err result ≡ entry_refusal (rules_of rules.now.entries) entry.now }
 {
@@ -143,8 +145,8 @@ fn accept_entry(rules: &IndexMap<String, CompiledRule>, entry: &NamedEntry) -> R
     accept_half(rules, Half::B, &entry.b)
 }
 
-/// Accepts the rule that a half names, or a half without a name. Returns the fault if no rule has
-/// the name, or one of the other half has it.
+/// Accepts the rule that a half names, or a half without a name. Returns `NoRule` if no rule has
+/// the name, and `WrongHalf` if one of the other half has it.
 fn accept_half(
     rules: &IndexMap<String, CompiledRule>,
     half: Half,

@@ -85,7 +85,8 @@ impl Rules {
     }
 
     /// Defines saved rules one after another, and returns them. Returns `Ok(None)` if one of them
-    /// can't be defined, or has the name of one before. `scratch` lends memory to try their texts.
+    /// can't be defined, or has the name of one before. `Err` is only for a failed allocation.
+    /// `scratch` lends memory to try their texts, and its tables and marks stay.
     pub fn of(
         alloc: Global,
         rules: NamedRules,
@@ -106,7 +107,8 @@ impl Rules {
     }
 
     /// Defines a rule after the others, and returns true. Returns false, and defines none, if a
-    /// rule has its name or it is refused.
+    /// rule has its name or it is refused. `Err` is only for a failed allocation. `scratch` lends
+    /// memory to try the text.
     fn add(&mut self, rule: NamedRule, scratch: &mut Tables) -> Result<bool, NoMemory>
         ensures rules { IfOk result (λ is. IsAdded is self.old self.new rule) }
         ensures scratch { scratch.new ≡ scratch.old }
@@ -129,7 +131,7 @@ impl Rules {
         wiring_of(&self.by_name, name).is_some()
     }
 
-    /// Returns how many rules there are.
+    /// Returns how many rules there are, at most 16.
     pub fn len(&self) -> usize
         ensures number { result ≡ length self.now }
         // The invariant of the rules.
@@ -170,17 +172,18 @@ impl Rules {
     }
 
     /// Returns the entries of a cycle as a saved machine has them, with the names of their rules
-    /// instead of their numbers.
+    /// instead of their numbers. A half without a rule, or with a number that no rule has, has no
+    /// name.
     pub fn saved_entries(&self, cycle: &[Entry]) -> Result<NamedEntries, NoMemory>
         ensures { IfOk result (λ saved. saved ≡ named_entries self.now cycle.now) }
     {
         saved_entries(self.alloc, &self.by_name, cycle)
     }
 
-    /// Compiles a rule's text, and stores the rule under a name, instead of the one that has it. If
-    /// the text has a fault, or the cycle uses a rule of that name, returns the refusal, and
-    /// nothing changes. If an allocation fails, nothing changes either. `scratch` lends memory to
-    /// try the text.
+    /// Compiles a rule's text, and stores the rule under a name, in the place of the one that has
+    /// it. Returns the refusal if the name can't be a rule's, the cycle uses a rule of it, 16 rules
+    /// have others, or the text is refused. After any error nothing changes. `scratch` lends memory
+    /// to try the text.
     pub fn define(
         &mut self,
         cycle: &[Entry],
@@ -226,8 +229,8 @@ impl Rules {
     }
 
     /// Drops the rule that has the name. Each later rule's number becomes less by one, also in the
-    /// cycle. If there is no such rule or the cycle uses it, returns the fault, and nothing
-    /// changes.
+    /// cycle. Returns `NoRule` if there is no such rule, and `RuleInUse` if the cycle uses it. Then
+    /// nothing changes.
     pub fn remove(&mut self, cycle: &mut Option<Cycle>, name: &Text) -> Result<(), Fault>
         ensures refusal { result_err result
             ≡ drop_refusal self.old (named_entries self.old (entries_of cycle.old)) name.now }
@@ -251,8 +254,9 @@ impl Rules {
         Ok(())
     }
 
-    /// Returns the cycle of these entries, with the numbers of the rules that they name. If the
-    /// entries are refused, returns the fault.
+    /// Returns the cycle of these entries, with the numbers of the rules that they name. Returns a
+    /// fault if there isn't 1 to 16 of them, a phase is above 3, no rule has a name, or a rule of
+    /// the other half has it.
     pub fn cycle_of(&self, entries: &NamedEntries) -> Result<Cycle, Fault>
         ensures refusal { result_err result ≡ cycle_refusal self.now entries.now }
         ensures named { IfOk result (λ cycle. named_entries self.now cycle ≡ entries.now) }

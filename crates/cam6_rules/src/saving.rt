@@ -32,7 +32,7 @@ pub(crate) fn saved_rules(
 }
 
 /// Returns the entries of a cycle as a saved machine has them, with the names of their rules
-/// instead of their numbers.
+/// instead of their numbers. A half without a rule, or with a number that no rule has, has no name.
 pub(crate) fn saved_entries(
     alloc: Global,
     rules: &IndexMap<String, CompiledRule>,
@@ -48,8 +48,8 @@ pub(crate) fn saved_entries(
     Ok(NamedEntries::new(saved))
 }
 
-/// Returns an entry with the names of its rules instead of their numbers. A half without a rule has
-/// no name.
+/// Returns an entry with the names of its rules instead of their numbers. A half without a rule, or
+/// with a number that no rule has, has no name.
 fn named_entry(
     alloc: Global,
     rules: &IndexMap<String, CompiledRule>,
@@ -67,7 +67,8 @@ fn named_entry(
     })
 }
 
-/// Returns a copy of the name of a half's rule, or `None` if the half has no rule.
+/// Returns a copy of the name of a half's rule. Returns `Ok(None)` if the half has no rule, or if
+/// no rule has its number.
 fn name_at(
     alloc: Global,
     rules: &IndexMap<String, CompiledRule>,

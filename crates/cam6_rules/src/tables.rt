@@ -46,7 +46,7 @@ impl Tables {
     ghost use Rattle.cam6_rules.specs.Numbers.{named_entries};
     ghost use Rattle.cam6_rules.specs.Filled.{AreTrue, AreTablesOf, way_refusal};
 
-    /// Allocates the tables of the longest cycle. None of them is filled.
+    /// Allocates the tables of the longest cycle, 32, and one to try rules. None of them is filled.
     pub fn blank(alloc: Global) -> Result<Tables, NoMemory>
         ensures filled { IfOk result (λ tables. tables.filled ≡ None) }
     {
@@ -62,8 +62,8 @@ impl Tables {
         })
     }
 
-    /// Lends all tables, as many as the longest cycle needs, in the order of `tables_needed`. Those
-    /// that aren't filled may hold anything.
+    /// Lends all tables, 32 as the longest cycle needs, in the order of `tables_needed`. Those that
+    /// aren't filled may hold anything.
     pub fn by_use(&self) -> &[Table]
         ensures entries { result.now ≡ self.now.entries }
         ensures room { length result.now ≡ max_tables }
@@ -71,7 +71,8 @@ impl Tables {
         self.by_use.as_slice()
     }
 
-    /// Marks all tables as not filled. This is needed if another cycle is set.
+    /// Marks all tables as not filled. Call it whenever another cycle is set, before the next
+    /// `fill`.
     pub fn invalidate(&mut self)
         ensures entries { self.new.entries ≡ self.old.entries }
         ensures filled { self.new.filled ≡ None }
@@ -79,9 +80,10 @@ impl Tables {
         self.filled = None;
     }
 
-    /// Fills the tables that a cycle needs for steps in a direction, unless they are filled for it
-    /// already. If a rule can't be undone, returns which and why, and marks the tables as not
-    /// filled. Does not allocate.
+    /// Fills the tables that a cycle needs for steps in a direction, unless they are marked as
+    /// filled for it. Marks must be of this cycle and these rules: see `invalidate`. If a rule
+    /// can't be undone backward, returns which and why, and marks the tables as not filled. Does
+    /// not allocate.
     pub fn fill(
         &mut self,
         rules: &Rules,
@@ -106,8 +108,9 @@ impl Tables {
         Ok(())
     }
 
-    /// Compiles a rule's text, and tries the code at every address. Returns the code, or why the
-    /// text has none. The marks of the tables stay.
+    /// Compiles a rule's text, and tries the code at every address. Returns the code. Otherwise
+    /// returns the text's first fault, the least address at which the rule stops, or `NoMemory`.
+    /// The tables and their marks stay.
     pub(crate) fn compile(
         &mut self,
         alloc: Global,
