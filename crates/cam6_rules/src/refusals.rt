@@ -21,8 +21,8 @@ use cam6_wiring::Half;
 use indexmap::IndexMap;
 
 /// Accepts the definition of a rule under a name. Returns `OutOfRange` if the name can't be a
-/// rule's, `RuleInUse` if the cycle uses a rule of that name, and `TooManyRules` if it is new and
-/// there are 16 rules. The text isn't looked at.
+/// rule's, and `RuleInUse` if the cycle uses a rule of that name. Returns `TooManyRules` if the
+/// name is new and there are 16 rules. The text isn't looked at.
 pub(crate) fn accept_rule(
     rules: &IndexMap<String, CompiledRule>,
     cycle: &[Entry],

@@ -181,9 +181,9 @@ impl Rules {
     }
 
     /// Compiles a rule's text, and stores the rule under a name, in the place of the one that has
-    /// it. Returns the refusal if the name can't be a rule's, the cycle uses a rule of it, 16 rules
-    /// have others, or the text is refused. After any error nothing changes. `scratch` lends memory
-    /// to try the text.
+    /// it. Refuses a name that can't be a rule's, one that the cycle uses, and a new one beside 16
+    /// rules. Also refuses a text with a fault, or one that stops. After any error nothing changes.
+    /// `scratch` lends memory to try the text.
     pub fn define(
         &mut self,
         cycle: &[Entry],
@@ -254,9 +254,9 @@ impl Rules {
         Ok(())
     }
 
-    /// Returns the cycle of these entries, with the numbers of the rules that they name. Returns a
-    /// fault if there isn't 1 to 16 of them, a phase is above 3, no rule has a name, or a rule of
-    /// the other half has it.
+    /// Returns the cycle of these entries, with the numbers of the rules that they name. Returns
+    /// `OutOfRange` if there isn't 1 to 16 of them, or a phase is above 3. Returns `NoRule` if no
+    /// rule has a name, and `WrongHalf` if one of the other half has it.
     pub fn cycle_of(&self, entries: &NamedEntries) -> Result<Cycle, Fault>
         ensures refusal { result_err result ≡ cycle_refusal self.now entries.now }
         ensures named { IfOk result (λ cycle. named_entries self.now cycle ≡ entries.now) }
