@@ -9,7 +9,8 @@ use cam6_commands::{Command, Reply};
 use cam6_planes::{NoMemory, Side};
 use std::alloc::Global;
 
-/// Returns the replies of a blank machine of this limit to commands, and the machine after them.
+/// Returns the replies of a blank machine of this limit to commands, in order, and the machine
+/// after them. Returns `NoMemory` only if an allocation fails.
 pub fn replies_alone(
     alloc: Global,
     limit: Side,
@@ -24,7 +25,8 @@ pub fn replies_alone(
     Ok((replies, machine))
 }
 
-/// Does commands one after another, and returns their replies in order.
+/// Does commands one after another, and returns their replies in order. If an allocation fails,
+/// returns `NoMemory`, and some of the commands may be done.
 fn replies_of(
     alloc: Global,
     machine: &mut Machine,

@@ -6,8 +6,8 @@ use crate::replies::Now;
 use cam6_commands::{Done, Reply, StepCount};
 use cam6_cycle::Direction;
 
-/// Returns the steps as work to do in this direction. If there are none, returns the reply with the
-/// position.
+/// Returns the steps as work to do in this direction. If there are 0, returns the command's reply
+/// with the position.
 pub(crate) fn work_or_reply(steps: StepCount, direction: Direction, position: usize) -> Now
     ensures { result ≡ work_or_reply steps direction position }
 {
@@ -17,8 +17,8 @@ pub(crate) fn work_or_reply(steps: StepCount, direction: Direction, position: us
     }
 }
 
-/// Returns the reply to a command whose steps led to this position: that of `run` forward, and that
-/// of `back` backward.
+/// Returns the reply to a command whose steps led to this position, counted from 0: that of `run`
+/// forward, and that of `back` backward.
 pub(crate) fn reply_at(direction: Direction, position: usize) -> Reply
     ensures { result ≡ reply_at direction position }
 {

@@ -71,7 +71,8 @@ impl Held {
         self.image().planes()
     }
 
-    /// Writes row `y` of plane `p` from bytes. The first byte has columns 0 to 7.
+    /// Writes row `y` of plane `p`, from 0 to 3, from bytes. The first byte has columns 0 to 7, and
+    /// there is one for each eight columns. Row `y` is below the side.
     pub(crate) fn put_row(&mut self, p: usize, y: usize, bits: &[u8])
         requires plane { p < 4 }
         requires row { y < side_number self.old.side }
@@ -86,7 +87,7 @@ impl Held {
         image.planes_mut().put_row(p, y, bits);
     }
 
-    /// Sets every bit of plane `p` to 0. The other planes stay as they are.
+    /// Sets every bit of plane `p`, from 0 to 3, to 0. The other planes stay as they are.
     pub(crate) fn clear_plane(&mut self, p: usize)
         requires plane { p < 4 }
         ensures cells { cells self.new
@@ -99,7 +100,8 @@ impl Held {
         image.planes_mut().clear_plane(p);
     }
 
-    /// Changes the side of the image, and sets every bit to 0.
+    /// Changes the side of the image, and sets every bit of all planes to 0. The side must be
+    /// within the image's limit.
     pub(crate) fn set_side(&mut self, side: Side)
         requires within { side_number side ≤ side_number self.old.limit }
         ensures cells { cells self.new ≡ no_cells }
@@ -112,7 +114,8 @@ impl Held {
         image.planes_mut().set_side(side);
     }
 
-    /// Changes the side of the image, and writes all rows of its four planes.
+    /// Changes the side of the image, and writes all rows of its four planes. The side must be
+    /// within the image's limit, and each plane have all rows and columns of it.
     pub(crate) fn put_planes(&mut self, side: Side, rows: &[BitRows; 4])
         requires within { side_number side ≤ side_number self.old.limit }
         requires rows { are_planes (side_number side) rows.now ≡ true }
@@ -127,7 +130,8 @@ impl Held {
     }
 
     /// Does `n` steps of the image along the cycle in `kept` (backward, undoes them). Sets the
-    /// position in `kept` to that after them.
+    /// position in `kept` to that after them. A cycle must be set, and backward each of its rules
+    /// be one that can be undone.
     pub(crate) fn go(&mut self, kept: &mut Kept, n: u16, direction: Direction)
         requires accepted { refusal (machine_over self.old kept.old) (command_of n direction)
             ≡ None }

@@ -68,7 +68,8 @@ impl Kept {
     ghost use Rattle.cam6_machine.specs.Stored.{machine_over, nothing_kept, IsKept};
     ghost use Rattle.cam6_machine.specs.AtOnce.{work_in, IsReplyTo, machine_then, CanWork};
 
-    /// Makes what a blank machine of this limit keeps beside its image.
+    /// Makes what a blank machine of this limit keeps beside its image: no rules, no cycle,
+    /// position 0, and each state as its own colour.
     pub(crate) fn new(alloc: Global, limit: Side) -> Result<Kept, NoMemory>
         ensures { IfOk result (λ kept. kept ≡ nothing_kept limit) }
     {
@@ -108,7 +109,7 @@ impl Kept {
         self.cycle.as_ref()
     }
 
-    /// Returns the position in the cycle, or 0 if no cycle is set.
+    /// Returns the position in the cycle, counted from 0. It is 0 if no cycle is set.
     pub fn position(&self) -> usize
         ensures { result ≡ self.now.position }
     {
@@ -120,7 +121,7 @@ impl Kept {
         self.alloc
     }
 
-    /// Lends the colours, one for each state of a cell.
+    /// Lends the colours, from 0 to 15, one for each of the 16 states of a cell.
     pub(crate) fn colours(&self) -> &[u8; 16]
         ensures colours { result.now ≡ self.now.colours }
         ensures within { AllByRecursion (λ colour. colour ≤ max_colour) result.now }
@@ -135,7 +136,8 @@ impl Kept {
         self.position = 0;
     }
 
-    /// Sets the position in the cycle to this one.
+    /// Sets the position in the cycle to this one, counted from 0. It must be below the number of
+    /// entries, or 0 if no cycle is set.
     pub(crate) fn set_position(&mut self, position: usize)
         requires { IsPosition (named_entries self.old.rules self.old.cycle) position }
         ensures { self.new ≡ record self.old { position = position } }
@@ -144,7 +146,8 @@ impl Kept {
     }
 
     /// Defines a rule, in place of the one that has its name, and returns the reply. A refusal is a
-    /// reply too. If it is refused or an allocation fails, all rules stay as they were.
+    /// reply too, and `Err` is only for a failed allocation. If it is refused or an allocation
+    /// fails, all rules stay as they were.
     pub(crate) fn define(
         &mut self,
         name: Text,
@@ -190,7 +193,8 @@ impl Kept {
         Reply::Done(Done::Drop)
     }
 
-    /// Returns the reply with the names of all rules, in their order.
+    /// Returns the reply with the names of all rules, in their order. `Err` is only for a failed
+    /// allocation. No rules need no memory.
     pub(crate) fn list_rules(&self) -> Result<Reply, NoMemory>
         ensures reply { (planes : Stored) → IfOk result (λ r.
             r ≡ reply (machine_over planes self.now) Command.Rules) }
@@ -202,8 +206,8 @@ impl Kept {
         Ok(Reply::Done(Done::Rules { names }))
     }
 
-    /// Sets the colours of all states, and returns the reply. If one of them is above 15, the reply
-    /// is the refusal, and nothing changes.
+    /// Sets the colours of all 16 states, in the order of the states, and returns the reply. If one
+    /// of them is above 15, the reply is the refusal, and nothing changes.
     pub(crate) fn set_colours(&mut self, colours: &[u64; 16]) -> Reply
         ensures reply { (planes : Stored) →
             result ≡ reply (machine_over planes self.old) (Command.Map colours.now) }
@@ -240,8 +244,8 @@ impl Kept {
         }
     }
 
-    /// Returns the `n` steps that a run has to do, as work. If there are none or the run is
-    /// refused, returns the reply. Changes nothing.
+    /// Returns the `n` steps that a run has to do, as work. Returns the refusal if `n` is above
+    /// 65,535 or no cycle is set. Otherwise returns the reply if `n` is 0. Changes nothing.
     pub(crate) fn work_of_run(&self, n: u64) -> Now
         ensures work { (planes : Stored) →
             work_in result ≡ work_of (machine_over planes self.now) (Command.Run n) }
@@ -257,9 +261,10 @@ impl Kept {
         }
     }
 
-    /// Returns the `n` steps that a `back` has to undo, as work. If there are none or it is
-    /// refused, returns the reply. Fills the tables for these steps, to see whether they can be
-    /// undone.
+    /// Returns the `n` steps that a `back` has to undo, as work. Returns the refusal if `n` is
+    /// above 65,535, no cycle is set, or a rule can't be undone. Otherwise returns the reply if `n`
+    /// is 0. Fills the tables for these steps, to see whether they can be undone. Nothing else
+    /// changes.
     pub(crate) fn work_of_back(&mut self, n: u64) -> Now
         ensures work { (planes : Stored) →
             work_in result ≡ work_of (machine_over planes self.old) (Command.Back n) }
@@ -298,7 +303,8 @@ impl Kept {
     }
 
     /// Loads all of a saved machine but its planes, and returns its side and its planes. If it is
-    /// refused, returns `Ok(Err(fault))`. If it is refused or an allocation fails, nothing changes.
+    /// refused, returns `Ok(Err(fault))`: see `check_saved_machine`. If it is refused or an
+    /// allocation fails, nothing changes. The limit stays in any case.
     pub(crate) fn load(
         &mut self,
         saved: SavedMachine,
@@ -333,7 +339,8 @@ impl Kept {
 
     /// Does `n` steps of an image along the cycle (backward, undoes them), and returns the image.
     /// Sets the position to that after them. First fills the tables, unless they are filled for
-    /// this direction. A cycle must be set, and backward each of its rules can be undone.
+    /// this direction. A cycle must be set, and backward each of its rules be one that can be
+    /// undone.
     pub(crate) fn go(&mut self, image: AtRest, n: u16, direction: Direction) -> AtRest
         requires accepted { refusal (machine_over image.planes self.old) (command_of n direction)
             ≡ None }

@@ -1,8 +1,8 @@
 //! Laws of a machine that comes apart. Each law is the contract of a function that does nothing.
 ghost use Rattle.cam6_machine.specs.Laws.{JoinsWhatWasParted, KeptIsMachine};
 
-/// A machine that is joined from the parts of another one equals it. Only the side, the cells and
-/// the position are those that are handed in.
+/// A machine that is joined from what another one kept equals that one, but for three things. The
+/// side, the cells and the position are those that are handed in.
 pub fn what_is_joined_was_parted()
     ensures law { JoinsWhatWasParted }
 {}

@@ -32,8 +32,10 @@ pub(crate) struct Loaded {
     pub(crate) colours: [u8; 16],
 }
 
-/// Checks what was saved of a machine, and returns it as it is loaded. If it is refused, returns
-/// `Ok(Err(fault))`. `scratch` lends memory to try its rules, and stays as it was.
+/// Checks what was saved of a machine, and returns it as it is loaded. Returns `Ok(Err(NoMachine))`
+/// if no machine saves this, and otherwise `Ok(Err(AboveLimit))` if its side is above the limit.
+/// `Err` is only for a failed allocation. `scratch` lends memory to try its rules, and stays as it
+/// was.
 pub(crate) fn check_saved_machine(
     alloc: Global,
     limit: Side,
@@ -99,7 +101,8 @@ fn cycle_of(rules: &Rules, entries: &NamedEntries) -> Result<Option<Cycle>, Faul
     Ok(Some(rules.cycle_of(entries)?))
 }
 
-/// Whether the position is below the number of entries, or 0 if there are no entries.
+/// Whether the position, counted from 0, is below the number of entries. If there are no entries,
+/// whether it is 0.
 fn is_position(entries: &[NamedEntry], position: u64) -> bool
     ensures { result ≡ is_position entries.now position }
 {
@@ -148,7 +151,8 @@ fn is_row(side: Side, row: &Bits) -> bool
     row.as_slice().len() == side.number() / 8
 }
 
-/// Changes the side of the planes, and writes all rows of the four planes.
+/// Changes the side of the planes, and writes all rows of the four planes. The side must be within
+/// the limit of the planes, and each plane have all rows and columns of it.
 pub(crate) fn put_planes(planes: &mut Planes, side: Side, rows: &[BitRows; 4])
     requires within { side_number side ≤ side_number planes.old.limit }
     requires rows { are_planes (side_number side) rows.now ≡ true }
@@ -162,7 +166,8 @@ pub(crate) fn put_planes(planes: &mut Planes, side: Side, rows: &[BitRows; 4])
     }
 }
 
-/// Writes all rows of plane `p`.
+/// Writes all rows of plane `p`, from 0 to 3, from row 0 on. There must be one for each row of the
+/// side, with a bit for each column.
 fn put_rows(planes: &mut Planes, p: usize, rows: &[Bits])
     requires plane { p < 4 }
     requires rows { are_rows (side_number planes.old.side) rows.now ≡ true }

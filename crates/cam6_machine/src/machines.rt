@@ -74,7 +74,8 @@ impl Machine {
         self.kept.limit()
     }
 
-    /// Gives up the machine, and returns what it keeps, its image and the spare one.
+    /// Gives up the machine, and returns what it keeps, its image and the spare one. `Kept::join`
+    /// makes a machine of them again.
     pub fn into_parts(self) -> (Kept, AtRest, Spare)
         ensures kept { result.0 ≡ self.kept }
         ensures image { result.1.planes ≡ self.planes }
@@ -85,8 +86,8 @@ impl Machine {
     }
 
     /// Does a command without its steps. Returns the reply, or the steps that the command has to
-    /// do, which `work` then does. Allocates all memory of the command. If an allocation fails,
-    /// nothing changes.
+    /// do, which `work` then does. A refusal is a reply too. Allocates all memory of the command.
+    /// `Err` is only for a failed allocation, and then nothing changes.
     pub fn now(&mut self, command: Command) -> Result<Now, NoMemory>
         // Steps are left exactly if the command does some.
         ensures work { IfOk result (λ now. work_in now ≡ work_of (machine_of self.old) command) }
@@ -121,7 +122,8 @@ impl Machine {
         }
     }
 
-    /// Writes a row of a plane, and returns the reply. If it is refused, nothing changes.
+    /// Writes a row of a plane, and returns the reply. Refuses a plane above 3, a row that isn't
+    /// below the side, and bits that aren't one for each column. Then nothing changes.
     fn set(&mut self, plane: u64, row: u64, bits: &Bits) -> Reply
         ensures reply { result ≡ reply (machine_of self.old) (Command.Set plane row bits.now) }
         ensures machine { machine_of self.new
@@ -152,7 +154,8 @@ impl Machine {
     }
 
     /// Changes the side, sets every bit and the position to 0, even if the side is the same, and
-    /// returns the reply. If it is refused, nothing changes.
+    /// returns the reply. Refuses a number that isn't a side, or is above the limit. Then nothing
+    /// changes.
     fn set_side(&mut self, number: u64) -> Reply
         ensures reply { result ≡ reply (machine_of self.old) (Command.Side number) }
         ensures machine { machine_of self.new
@@ -168,7 +171,8 @@ impl Machine {
         }
     }
 
-    /// Returns the reply with the digits of a row of a plane, or a refusal.
+    /// Returns the reply with the digits of a row of a plane. Refuses a plane above 3, and a row
+    /// that isn't below the side.
     fn show_row(&self, plane: u64, row: u64) -> Reply
         ensures reply { result ≡ reply (machine_of self.now) (Command.Row plane row) }
         ensures machine { machine_of self.now
@@ -184,7 +188,8 @@ impl Machine {
         }
     }
 
-    /// Returns the reply with the digits of all rows of a plane, or a refusal.
+    /// Returns the reply with the digits of all rows of a plane. Refuses a plane above 3. `Err` is
+    /// only for a failed allocation.
     fn show(&self, plane: u64) -> Result<Reply, NoMemory>
         ensures reply { IfOk result (λ r.
             r ≡ reply (machine_of self.now) (Command.Plane plane)) }
@@ -201,7 +206,8 @@ impl Machine {
         }
     }
 
-    /// Returns the reply with the colour of each cell of a row, or a refusal.
+    /// Returns the reply with the colour of each cell of a row. Refuses a row that isn't below the
+    /// side.
     fn show_colours(&self, row: u64) -> Reply
         ensures reply { result ≡ reply (machine_of self.now) (Command.Colours row) }
         ensures machine { machine_of self.now ≡ after (machine_of self.now) (Command.Colours row) }
@@ -216,7 +222,8 @@ impl Machine {
         }
     }
 
-    /// Returns the reply with the number of cells whose state is in the mask, or a refusal.
+    /// Returns the reply with the number of cells whose state is in the mask, with bit 0 for state
+    /// 0. Refuses a mask above 65,535.
     fn count_cells(&self, mask: u64) -> Reply
         ensures reply { result ≡ reply (machine_of self.now) (Command.Count mask) }
         ensures machine { machine_of self.now ≡ after (machine_of self.now) (Command.Count mask) }
@@ -230,7 +237,8 @@ impl Machine {
         }
     }
 
-    /// Returns the reply with a copy of all of the machine but its limit.
+    /// Returns the reply with a copy of all of the machine but its limit. `Err` is only for a
+    /// failed allocation.
     fn save(&self) -> Result<Reply, NoMemory>
         ensures reply { IfOk result (λ r. r ≡ reply (machine_of self.now) Command.Save) }
         ensures machine { machine_of self.now ≡ after (machine_of self.now) Command.Save }
@@ -239,8 +247,9 @@ impl Machine {
         Ok(Reply::Done(Done::Save { machine }))
     }
 
-    /// Makes this machine the saved one, but keeps its limit, and returns the reply. If it is
-    /// refused or an allocation fails, nothing changes.
+    /// Makes this machine the saved one, but keeps its limit, and returns the reply. A refusal is a
+    /// reply too: see `check_saved_machine`. If it is refused or an allocation fails, nothing
+    /// changes.
     fn load(&mut self, saved: SavedMachine) -> Result<Reply, NoMemory>
         ensures reply { IfOk result (λ r. r ≡ reply (machine_of self.old) (Command.Load saved)) }
         ensures machine { IfOk result (λ r.
@@ -258,8 +267,9 @@ impl Machine {
         }
     }
 
-    /// Does `n` steps of a command along the cycle (backward, undoes them), and returns the
-    /// command's reply. Does not allocate.
+    /// Does `n` steps along the cycle (backward, undoes them), and returns the reply of `run`
+    /// (backward, of `back`). A cycle must be set, and backward each of its rules be one that can
+    /// be undone. This is so for the work that `now` returned. Does not allocate.
     pub fn work(&mut self, n: u16, direction: Direction) -> Reply
         requires accepted { refusal (machine_of self.old) (command_of n direction) ≡ None }
         ensures reply { result ≡ reply (machine_of self.old) (command_of n direction) }
@@ -270,8 +280,8 @@ impl Machine {
         reply_at(direction, self.kept.position())
     }
 
-    /// Does a command with its steps, and returns its reply. If an allocation fails, nothing
-    /// changes.
+    /// Does a command with its steps, and returns its reply. A refusal is a reply too. `Err` is
+    /// only for a failed allocation, and then nothing changes.
     pub fn reply_to(&mut self, command: Command) -> Result<Reply, NoMemory>
         ensures reply { IfOk result (λ r. r ≡ reply (machine_of self.old) command) }
         ensures machine { IfOk result (λ r.
@@ -292,8 +302,9 @@ impl Kept {
     ghost use Rattle.cam6_rules.specs.Numbers.{named_entries};
     ghost use Rattle.cam6_machine.specs.Stored.{machine_of, machine_over};
 
-    /// Makes a machine of what another one kept, an image, a spare one, and a position in the
-    /// cycle. Does not allocate.
+    /// Makes a machine of what another one kept, an image, a spare one, and a position counted from
+    /// 0. Both images must have the kept limit. The position must be below the number of entries,
+    /// or 0 without a cycle. Does not allocate.
     pub fn join(self, image: AtRest, spare: Spare, position: usize) -> Machine
         requires image { image.planes.limit ≡ self.limit }
         requires spare { spare.planes.limit ≡ self.limit }

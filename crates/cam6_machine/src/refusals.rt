@@ -16,8 +16,8 @@ use cam6_commands::{Fault, MAX_COLOUR, PlaneNumber, RowNumber, StepCount};
 use cam6_cycle::Cycle;
 use cam6_planes::Side;
 
-/// Returns the plane and the row of these numbers, or the fault if there is no such plane or row.
-/// The plane's fault comes first.
+/// Returns the plane and the row of these numbers. Returns `OutOfRange` if the plane is above 3, or
+/// the row isn't below the side.
 pub(crate) fn accept_row(
     side: Side,
     plane: u64,
@@ -32,9 +32,9 @@ pub(crate) fn accept_row(
     Ok((plane, row))
 }
 
-/// Returns the plane and the row of these numbers, for a row that is to be written. Returns the
-/// fault if there is no such plane or row, or if `bits` has not one bit for each column. The
-/// plane's fault comes first, and that of the bits last.
+/// Returns the plane and the row of these numbers, for a row that is to be written. Returns
+/// `OutOfRange` if the plane is above 3, the row isn't below the side, or `bits` isn't one byte for
+/// each eight columns.
 pub(crate) fn accept_set(
     side: Side,
     plane: u64,
@@ -53,8 +53,8 @@ pub(crate) fn accept_set(
     Ok(at)
 }
 
-/// Returns the side with this number. Returns the fault if no side has this number, or if it is
-/// above the limit.
+/// Returns the side with this number. Returns `OutOfRange` if no side has this number, and
+/// `AboveLimit` if it is above the limit.
 pub(crate) fn accept_side(limit: Side, number: u64) -> Result<Side, Fault>
     ensures refusal { result_err result ≡ side_refusal limit number }
     ensures side { IfOk result (λ side. side_of number ≡ Some side) }
@@ -69,8 +69,8 @@ pub(crate) fn accept_side(limit: Side, number: u64) -> Result<Side, Fault>
     Ok(side)
 }
 
-/// Returns the cycle and the number of steps of a run. Returns the fault if there are more than
-/// 65,535 steps, or else if no cycle is set.
+/// Returns the cycle and the number of steps of a run. Returns `OutOfRange` if there are more than
+/// 65,535 steps, and otherwise `NoCycle` if no cycle is set.
 pub(crate) fn accept_run(cycle: &Option<Cycle>, n: u64) -> Result<(&Cycle, StepCount), Fault>
     // For whatever rules the numbers are of.
     ensures refusal { (rules : List Rule) →
@@ -89,7 +89,8 @@ pub(crate) fn accept_run(cycle: &Option<Cycle>, n: u64) -> Result<(&Cycle, StepC
     }
 }
 
-/// Returns the colours of all states as a machine keeps them. Returns the fault if one is above 15.
+/// Returns the colours of all 16 states as a machine keeps them. Returns `OutOfRange` if one is
+/// above 15.
 pub(crate) fn accept_colours(colours: &[u64; 16]) -> Result<[u8; 16], Fault>
     ensures refusal { result_err result ≡ map_refusal colours.now }
     ensures colours { IfOk result (λ kept. kept ≡ colours.now) }
@@ -101,7 +102,7 @@ pub(crate) fn accept_colours(colours: &[u64; 16]) -> Result<[u8; 16], Fault>
     Ok(kept)
 }
 
-/// Returns a colour as a machine keeps it. Returns the fault if it is above 15.
+/// Returns a colour as a machine keeps it. Returns `OutOfRange` if it is above 15.
 fn accept_colour(colour: u64) -> Result<u8, Fault>
     ensures refusal { result_err result ≡ unless (nat_le colour max_colour) OutOfRange }
     ensures colour { IfOk result (λ kept. kept ≡ colour) }

@@ -13,7 +13,8 @@ use cam6_planes::{NoMemory, Planes};
 use cam6_view::{COLOURS, colour_row};
 use std::alloc::Global;
 
-/// Returns the colours of the cells of row `y`. `map` has the colour of each state.
+/// Returns the colours of the cells of row `y`, from column 0 on. `map` has the colour of each
+/// state, each at most 15. Row `y` is below the side.
 pub(crate) fn row_colours(rest: &AtRest, map: &[u8; 16], y: usize) -> RowColours
     requires row { y < width rest.now.planes }
     requires colours { AllByRecursion (λ colour. colour ≤ max_colour) map.now }
@@ -24,7 +25,8 @@ pub(crate) fn row_colours(rest: &AtRest, map: &[u8; 16], y: usize) -> RowColours
     RowColours::new(count, colours)
 }
 
-/// Returns the digits of each row of plane `p`.
+/// Returns the digits of each row of plane `p`, from 0 to 3, from row 0 on. Returns `NoMemory` only
+/// if an allocation fails.
 pub(crate) fn plane_rows(alloc: Global, planes: &Planes, p: usize) -> Result<PlaneRows, NoMemory>
     requires { p < 4 }
     ensures { let s = width planes.now in

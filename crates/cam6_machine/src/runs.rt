@@ -15,8 +15,9 @@ use cam6_band::{AtRest, Scratch, tables_of_step};
 use cam6_cycle::{Cycle, Direction};
 use cam6_entries::Table;
 
-/// Does `n` steps of an image along the cycle from a position (backward, undoes them), by tables
-/// that are filled for it. Returns the image and the position after them.
+/// Does `n` steps of an image along the cycle (backward, undoes them), from a position counted from
+/// 0. Returns the image and the position after them. `tables` are the 32 of `Tables::by_use`,
+/// filled for this cycle and direction. The scratch may hold anything.
 pub(crate) fn go_along(
     image: AtRest,
     cycle: &Cycle,

@@ -8,7 +8,8 @@ use cam6_commands::BitRows;
 use cam6_planes::{NoMemory, Planes};
 use std::alloc::Global;
 
-/// Returns the bits of all rows of all four planes.
+/// Returns the bits of all rows of all four planes, planes and rows in order from 0 on. Returns
+/// `NoMemory` only if an allocation fails.
 pub(crate) fn saved_planes(alloc: Global, planes: &Planes) -> Result<[BitRows; 4], NoMemory>
     ensures { IfOk result (λ saved. saved ≡ four_planes (width planes.now) (cells planes.now)) }
 {
@@ -20,7 +21,8 @@ pub(crate) fn saved_planes(alloc: Global, planes: &Planes) -> Result<[BitRows; 4
     ])
 }
 
-/// Returns the bits of all rows of plane `p`.
+/// Returns the bits of all rows of plane `p`, from 0 to 3, from row 0 on. Returns `NoMemory` only
+/// if an allocation fails.
 fn plane_bits(alloc: Global, planes: &Planes, p: usize) -> Result<BitRows, NoMemory>
     requires { p < 4 }
     ensures { IfOk result (λ rows. rows ≡ plane_bytes (width planes.now) (cells planes.now) p) }
