@@ -36,17 +36,18 @@ pub trait Board: Drop {
     /// How often it failed.
     ghost fault_count: { Self → ℕ };
 
-    /// Returns how often the board failed.
+    /// Returns how often the board failed since it was made.
     fn faults(&self) -> u64
         ensures { result ≡ fault_count self.now };
 
-    /// Returns how many rows of the step under way are done, which is 0 at rest. Returns `None` if
-    /// the board is empty.
+    /// Returns how many rows of the step under way are done, a multiple of sixteen, which is 0 at
+    /// rest. Returns `None` if the board is empty.
     fn rows(&self) -> Option<u16>
         ensures { result ≡ rows_held (held self.now) };
 
-    /// Loads an empty board with a job, and with the tables of its cycle's uses. If the board
-    /// fails, returns `BoardFault`: the job is lost, and the board holds nothing.
+    /// Loads a board, which must be empty, with a job and the tables of its cycle's uses, which it
+    /// copies. If the board fails, returns `BoardFault` with the planes as spare: the job is lost,
+    /// and the board is empty.
     fn load(&mut self, job: Job, tables: &Tables) -> Result<(), BoardFault>
         requires { held self.old ≡ empty }
         ensures count { fault_count self.old ≤ fault_count self.new }
@@ -56,8 +57,9 @@ pub trait Board: Drop {
         ensures spare { IfErr result (λ fault.
             fault.spare.planes.limit ≡ (planes_in job.image).limit) };
 
-    /// Does one band of the job, and returns whether a step or the job ends with it. If the board
-    /// fails, returns `BoardFault`, and the board then holds nothing.
+    /// Does one band of the job, sixteen rows, and returns whether a step or the job ends with it.
+    /// The board must hold a job with steps to do. If the board fails, returns `BoardFault` with
+    /// spare planes, and the board is then empty.
     fn band(&mut self) -> Result<BandEnd, BoardFault>
         requires { HasWork (held self.old) }
         ensures count { fault_count self.old ≤ fault_count self.new }
@@ -67,8 +69,9 @@ pub trait Board: Drop {
         ensures spare { IfErr result (λ fault.
             IsOfLimit (held self.old) fault.spare.planes.limit) };
 
-    /// Takes the job's image off the board and returns it, at rest or in the middle of a step. If
-    /// the board fails, the image is lost. The board holds nothing after it in both cases.
+    /// Takes the job's image off the board and returns it, at rest or in the middle of a step. The
+    /// board must hold a job. If the board fails, returns `BoardFault` with spare planes: the image
+    /// is lost. The board is empty after it in both cases.
     fn unload(&mut self) -> Result<Image, BoardFault>
         requires { IsLoaded (held self.old) }
         ensures count { fault_count self.old ≤ fault_count self.new }

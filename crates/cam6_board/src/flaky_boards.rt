@@ -42,7 +42,8 @@ impl FlakyBoard {
     ghost use Rattle.cam6_board.specs.Held.{empty};
     ghost use Rattle.cam6_board.specs.Flaky.{is_due, later, faults_after};
 
-    /// Makes an empty board that fails at these calls, counted from 1.
+    /// Makes an empty board that fails at these calls. Its loads, bands and unloads are counted
+    /// together, from 1. Numbers may come in any order, and 0 stands for no call.
     pub fn new(alloc: Global, calls: Vec<u64>) -> Result<FlakyBoard, NoMemory>
         ensures load { IfOk result (λ board. board.load ≡ empty) }
         ensures due { IfOk result (λ board. board.due ≡ calls.items) }
@@ -59,7 +60,7 @@ impl FlakyBoard {
     }
 
     /// Counts the call that is being made. If the list has it, also counts a fault. Returns whether
-    /// the list has it.
+    /// the list has it. Then the list counts from the next call.
     fn fails(&mut self) -> bool
         ensures fails { result ≡ is_due self.old.due }
         ensures due { self.new.due ≡ later self.old.due }
@@ -82,7 +83,8 @@ fn is_due(due: &[u64]) -> bool
     due.iter().any(|call| *call == 1)
 }
 
-/// Counts one call in the list: each of its numbers falls by one, and 0 stays 0.
+/// Counts one call in the list: each of its numbers falls by one, and 0, which is a call that has
+/// been, stays 0.
 fn count_call(due: &mut Vec<u64>)
     ensures { due.new.items ≡ later due.old.items }
 {
@@ -107,7 +109,8 @@ impl Board for FlakyBoard {
         self.faults
     }
 
-    /// Returns how many rows of the step under way are done, or `None` if the board is empty.
+    /// Returns how many rows of the step under way are done, which is 0 at rest. Returns `None` if
+    /// the board is empty.
     fn rows(&self) -> Option<u16> {
         match &self.job {
             Some(job) => Some(job.image().rows_done()),
@@ -115,8 +118,8 @@ impl Board for FlakyBoard {
         }
     }
 
-    /// Loads the board. If this call is one of the list, fails, and returns the job's planes as
-    /// spare.
+    /// Loads the board, which must be empty, and copies the tables. If this call is one of the
+    /// list, fails, and returns the job's planes as spare. The board then is still empty.
     fn load(&mut self, job: Job, tables: &Tables) -> Result<(), BoardFault>
         requires { self.old.load ≡ empty }
         // It fails exactly if this call is one of the list.
@@ -139,8 +142,9 @@ impl Board for FlakyBoard {
         Ok(())
     }
 
-    /// Does one band of the job, and returns whether a step or the job ends with it. Fails if this
-    /// call is one of the list.
+    /// Does one band of the job, and returns whether a step or the job ends with it. The board must
+    /// hold a job with steps to do. If this call is one of the list, fails, returns spare planes,
+    /// and is then empty.
     fn band(&mut self) -> Result<BandEnd, BoardFault>
         requires { HasWork self.old.load }
         ensures fails { is_err result ≡ is_due self.old.due }
@@ -167,8 +171,9 @@ impl Board for FlakyBoard {
         Ok(job.band(self.tables.as_slice(), &mut self.scratch))
     }
 
-    /// Takes the job's image off the board and returns it. If this call is one of the list, fails,
-    /// and the image is lost.
+    /// Takes the job's image off the board, which must hold a job, and returns it. If this call is
+    /// one of the list, fails, and the image is lost: its planes come back as spare. The board is
+    /// then empty in both cases.
     fn unload(&mut self) -> Result<Image, BoardFault>
         requires { IsLoaded self.old.load }
         ensures fails { is_err result ≡ is_due self.old.due }

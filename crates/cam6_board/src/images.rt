@@ -83,8 +83,9 @@ impl Image {
         }
     }
 
-    /// Does one band of the step under way. If the image is at rest, begins a step by these tables
-    /// first. The image is at rest after a step's last band.
+    /// Does one band of the step under way, sixteen rows. If the image is at rest, begins a step by
+    /// these tables first. The image is at rest after a step's last band. All bands of a step need
+    /// the same tables. The scratch may hold anything.
     pub(crate) fn band(self, tables: &EntryTables, scratch: &mut Scratch) -> Image
         // From whatever planes the step began.
         ensures planes { let s = width (planes_in self) in (o : Cells) →
@@ -99,7 +100,8 @@ impl Image {
     }
 
     /// Does one band in place if the image is in the middle of a step, and the band isn't the
-    /// step's last. Returns whether it did the band. Otherwise nothing changes.
+    /// step's last. Returns whether it did the band. Otherwise nothing changes. The tables must be
+    /// those with which the step began.
     pub(crate) fn go_on(&mut self, tables: &EntryTables, scratch: &mut Scratch) -> bool
         // From whatever planes the step began.
         ensures planes { IsTrue result → let s = width (planes_in self.old) in (o : Cells) →
@@ -117,7 +119,8 @@ impl Image {
         }
     }
 
-    /// Returns the step under way. If the image is at rest, begins a step by these tables.
+    /// Returns the step under way. If the image is at rest, begins a step by these tables, with no
+    /// row done.
     fn into_step(self, tables: &EntryTables) -> MidStep
         ensures partway { (o p : Cells) → IsOnTheWay o p self → Partway o p result }
         ensures done { result.done ≡ rows_of self }
@@ -129,7 +132,7 @@ impl Image {
         }
     }
 
-    /// Consumes the image, and returns its planes as spare.
+    /// Consumes the image, and returns its planes as spare. A step under way is abandoned.
     pub fn into_spare(self) -> Spare
         ensures { result.planes.limit ≡ (planes_in self).limit }
     {

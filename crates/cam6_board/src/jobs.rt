@@ -37,8 +37,8 @@ impl Job {
     ghost use Rattle.cam6_board.specs.Bands.{Moves};
     ghost use Rattle.cam6_board.specs.Jobs.{stored_job};
 
-    /// Makes a job of so many steps along a cycle, from a position counted from 0. If the image is
-    /// in the middle of a step, that step is one of them.
+    /// Makes a job of so many steps along a cycle, from a position counted from 0 and below the
+    /// number of entries. If the image is in the middle of a step, that step is one of them.
     pub fn new(image: Image, cycle: Cycle, position: usize, direction: Direction, steps: u16) -> Job
         requires { position < length cycle }
         ensures { result ≡ stored_job image cycle position direction steps }
@@ -52,35 +52,36 @@ impl Job {
         }
     }
 
-    /// Returns the image, at rest or in the middle of a step.
+    /// Lends the image, at rest or in the middle of a step.
     pub fn image(&self) -> &Image
         ensures { result.now ≡ self.now.image }
     {
         self.image.image()
     }
 
-    /// Returns the cycle along which the steps go.
+    /// Lends the cycle along which the steps go.
     pub fn cycle(&self) -> &Cycle
         ensures { result.now ≡ self.now.cycle }
     {
         &self.cycle
     }
 
-    /// Returns whether the job runs steps or undoes them.
+    /// Returns whether the job does steps (`Forward`) or undoes them (`Backward`).
     pub fn direction(&self) -> Direction
         ensures { result ≡ self.now.direction }
     {
         self.direction
     }
 
-    /// Returns the job's image, at rest or in the middle of a step.
+    /// Gives up the job, and returns its image, at rest or in the middle of a step.
     pub fn into_image(self) -> Image
         ensures { result ≡ self.image }
     {
         self.image.into_image()
     }
 
-    /// Returns the position in the cycle, counted from 0.
+    /// Returns the position in the cycle, counted from 0. Within a step it is the one at which the
+    /// step began.
     pub fn position(&self) -> usize
         ensures position { result ≡ self.now.position }
         // The job's invariant.
@@ -96,9 +97,10 @@ impl Job {
         self.steps
     }
 
-    /// Does one band of the current entry's step, by the tables of the cycle's uses. If the band
-    /// ends a step, moves the position on and counts the step. Returns whether a step or the job
-    /// ends.
+    /// Does one band of the current entry's step, by the 32 tables of the cycle's uses, filled for
+    /// its direction. If the band ends a step, moves the position on, and one step less is to be
+    /// done. Returns whether a step or the job ends. Steps must be left. The scratch may hold
+    /// anything.
     pub fn band(&mut self, tables: &[Table], scratch: &mut Scratch) -> BandEnd
         requires work { 0 < self.old.steps }
         requires room { max_tables ≤ length tables.now }
@@ -115,8 +117,8 @@ impl Job {
     }
 }
 
-/// Returns the end of a step's last band: `LastEnd` if no steps are still to be done, else
-/// `StepEnd`.
+/// Returns the end of a step's last band, after which `steps` are still to be done: `LastEnd` for
+/// 0, else `StepEnd`.
 fn end_of(steps: u16) -> BandEnd
     ensures { result ≡ end_of steps }
 {

@@ -22,7 +22,7 @@ impl SoftBoard {
     ghost use Rattle.cam6_board.specs.Held.{empty};
     ghost use Rattle.cam6_board.specs.Soft.{load_in};
 
-    /// Makes an empty board that never fails.
+    /// Makes an empty board that never fails. Returns `NoMemory` only if an allocation fails.
     pub fn new(alloc: Global) -> Result<SoftBoard, NoMemory>
         ensures { IfOk result (λ board. load_in board ≡ empty) }
     {
@@ -50,7 +50,8 @@ impl Board for SoftBoard {
         0
     }
 
-    /// Returns how many rows of the step under way are done, or `None` if the board is empty.
+    /// Returns how many rows of the step under way are done, which is 0 at rest. Returns `None` if
+    /// the board is empty.
     fn rows(&self) -> Option<u16> {
         match &self.job {
             Some(job) => Some(job.image().rows_done()),
@@ -69,7 +70,8 @@ impl Board for SoftBoard {
         Ok(())
     }
 
-    /// Does one band of the job, and returns whether a step or the job ends with it. Never fails.
+    /// Does one band of the job, and returns whether a step or the job ends with it. The board must
+    /// hold a job with steps to do. Never fails.
     fn band(&mut self) -> Result<BandEnd, BoardFault>
         requires { HasWork (load_in self.old) }
         ensures never { IsOk result }
@@ -81,7 +83,8 @@ impl Board for SoftBoard {
         Ok(job.band(self.tables.as_slice(), &mut self.scratch))
     }
 
-    /// Takes the job's image off the board and returns it. Never fails.
+    /// Takes the job's image off the board, which must hold a job, and returns it. The board is
+    /// then empty. Never fails.
     fn unload(&mut self) -> Result<Image, BoardFault>
         requires { IsLoaded (load_in self.old) }
         ensures never { IsOk result }

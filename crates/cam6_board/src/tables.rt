@@ -28,7 +28,8 @@ impl Model for Tables {
 impl Tables {
     ghost use Rattle.std.specs.Prelude.{slice_set};
 
-    /// Allocates the tables. Their entries may be anything.
+    /// Allocates the 32 tables, one for each use of a rule in the longest cycle. Their entries may
+    /// be anything.
     pub fn blank(alloc: Global) -> Result<Tables, NoMemory> {
         let mut by_use = Vec::with_capacity(alloc, MAX_TABLES)?;
         for _use in 0..MAX_TABLES {
@@ -37,7 +38,7 @@ impl Tables {
         Ok(Tables { by_use })
     }
 
-    /// Returns all tables, in the order of their uses.
+    /// Lends all 32 tables, in the order of their uses.
     pub fn as_slice(&self) -> &[Table]
         ensures tables { result.now ≡ self.now }
         ensures room { length result.now ≡ max_tables }
@@ -45,7 +46,7 @@ impl Tables {
         self.by_use.as_slice()
     }
 
-    /// Copies a table's entries to the table of a use. `place` is the use's number, counted from 0.
+    /// Copies a table's entries to the table of a use. `place` is the use's number, from 0 to 31.
     pub fn put(&mut self, place: usize, table: &Table)
         requires { place < max_tables }
         ensures { self.new ≡ slice_set self.old place table.now }

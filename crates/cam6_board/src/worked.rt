@@ -28,14 +28,14 @@ impl Model for Worked {
 }
 
 impl Worked {
-    /// Makes it of an image.
+    /// Makes a holder of this image.
     pub(crate) fn of(image: Image) -> Worked
         ensures { result ≡ image }
     {
         Worked { image: Some(image) }
     }
 
-    /// Returns the image.
+    /// Gives up the holder, and returns its image.
     pub(crate) fn into_image(self) -> Image
         ensures { result ≡ self }
     {
@@ -45,7 +45,7 @@ impl Worked {
         }
     }
 
-    /// Returns the image. Only `band` takes it out, and puts it back.
+    /// Lends the image. It is there at each call: only `band` takes it out, and puts it back.
     pub(crate) fn image(&self) -> &Image
         ensures { result.now ≡ self.now }
     {
@@ -55,8 +55,9 @@ impl Worked {
         }
     }
 
-    /// Does one band of the step under way. If the image is at rest, begins a step by these tables
-    /// first.
+    /// Does one band of the step under way, sixteen rows. If the image is at rest, begins a step by
+    /// these tables first. The image is at rest after a step's last band. All bands of a step need
+    /// the same tables.
     pub(crate) fn band(&mut self, tables: &EntryTables, scratch: &mut Scratch)
         // From whatever planes the step began.
         ensures planes { let s = width (planes_in self.old) in (o : Cells) →
