@@ -49,8 +49,8 @@ impl TableCache {
     ghost use Rattle.cam6_cache.specs.Cached.{with_first, without_last};
     ghost use Rattle.cam6_cache.specs.Limits.{max_capacity};
 
-    /// Makes an empty cache of 1 to 64 tables. Allocates one table, and places for so many. Each
-    /// table that is cached allocates its own memory.
+    /// Makes an empty cache that holds at most `capacity` tables, from 1 to 64. Allocates one
+    /// table, and places for so many. Each table that is cached allocates its own memory.
     pub fn new(alloc: Global, capacity: usize) -> Result<TableCache, NoMemory>
         requires least { 0 < capacity }
         requires most { capacity ≤ max_capacity }
@@ -70,7 +70,7 @@ impl TableCache {
         })
     }
 
-    /// Returns how many tables are cached.
+    /// Returns how many tables are cached, at most the capacity.
     pub fn len(&self) -> usize
         ensures number { result ≡ length self.now.tables }
         // The rest is the invariant of a cache.
@@ -84,9 +84,10 @@ impl TableCache {
         self.tables.len()
     }
 
-    /// Copies or fills the key's true table to `out`, and returns whether it was cached. `code` is
-    /// that of the key's text. Allocates only to cache a new table. If that fails, the table isn't
-    /// cached, and `out` is right all the same.
+    /// Copies or fills the key's true table to `out`, and returns whether it was cached before.
+    /// `code` must be that of the key's text, and the rule of an inverted key one that can be
+    /// undone. Allocates only to cache a new table. If that fails, the table isn't cached, and
+    /// `out` is right all the same.
     pub fn load(&mut self, key: &Key, code: &Code, out: &mut Table) -> bool
         requires code { IsCodeFor key.now.wiring key.now.text code.now }
         requires reversible { key.now.inverted ≡ true → IsReversibleKey key.now }
@@ -110,7 +111,8 @@ impl TableCache {
         false
     }
 
-    /// Drops the table that was used longest ago. Returns false if the cache was empty.
+    /// Drops the table that was used longest ago, and returns true. Returns false if the cache was
+    /// empty.
     pub fn evict_oldest(&mut self) -> bool
         ensures some { result ≡ not (is_empty self.old.tables) }
         ensures rest { self.new ≡ without_last self.old }
@@ -119,8 +121,9 @@ impl TableCache {
     }
 }
 
-/// Fills `out` with the key's true table, by `fill_by`. Never fails, since the caller has made sure
-/// that an inverted key's rule can be undone. `straight` is scratch.
+/// Fills `out` with the key's true table, by `fill_by`. `code` must be that of the key's text.
+/// Never fails, since the caller has made sure that an inverted key's rule can be undone.
+/// `straight` is scratch.
 fn fill_true(key: &NamedKey, code: &Code, straight: &mut Table, out: &mut Table)
     requires code { IsCodeFor (key_of key.now).wiring (key_of key.now).text code.now }
     requires reversible { key.now.inverted ≡ true → IsReversibleKey (key_of key.now) }

@@ -60,7 +60,7 @@ impl Hash for NamedKey {
 
     ghost respects_eq = { Prim.search (hashing, rules) };
 
-    /// Hashes the key's text alone.
+    /// Hashes the key's text alone, since few keys of a cache differ in anything else.
     fn hash<H: Hasher>(&self, state: &mut H) {
         self.text.hash(state);
     }
@@ -91,7 +91,8 @@ impl Key {
     ghost use Rattle.cam6_cache.specs.Limits.{max_text};
     ghost use Rattle.cam6_cache.specs.Internal.Entries.{key_of};
 
-    /// Makes a key of the empty text. It has room for any text of at most `MAX_TEXT` bytes.
+    /// Makes a key of the empty text, to be `set`. It has room for any text of at most `MAX_TEXT`
+    /// bytes (8,192).
     pub fn scratch(alloc: Global) -> Result<Key, NoMemory>
         ensures key { IfOk result (λ key. key.text ≡ []) }
         // The constant is the limit that contracts speak of.
@@ -107,8 +108,9 @@ impl Key {
         Ok(Key { named })
     }
 
-    /// Makes this the key of a text, of at most `MAX_TEXT` bytes. `inverted` is for the table that
-    /// undoes the rule. Does not allocate.
+    /// Makes this the key of a text, of at most `MAX_TEXT` bytes (8,192), for this half, hood and
+    /// minor. `inverted` is true for the table that undoes the rule, and false for the rule's own.
+    /// Does not allocate.
     pub fn set(&mut self, half: Half, hood: Hood, minor: Minor, text: &str, inverted: bool)
         requires { length text.now ≤ max_text }
         ensures { self.new ≡ record {
@@ -126,7 +128,7 @@ impl Key {
         named.inverted = inverted;
     }
 
-    /// Returns the key as a cache looks it up.
+    /// Lends the key as a cache looks it up.
     pub(crate) fn named(&self) -> &NamedKey
         ensures { key_of result.now ≡ self.now }
     {
