@@ -116,8 +116,8 @@ pub fn others_at(set: &LaneMask, places: &Places, remaining: u16, top: u16) -> L
     those
 }
 
-/// Notes in `places` that the lanes of a set wait with `remaining` instructions left and stacks
-/// that end at row `top`.
+/// Notes in `places` that the lanes of a set wait with `remaining` instructions left, at most
+/// 4,096. Their stacks end at row `top`, at most 64. Other lanes stay.
 #[inline(always)]
 pub fn wait(places: &mut Places, set: &LaneMask, remaining: usize, top: usize)
     requires remaining { remaining ≤ max_eval_steps }

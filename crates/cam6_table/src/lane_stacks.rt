@@ -88,6 +88,7 @@ impl Stacks {
     }
 
     /// Returns `NotInAllLanes` if, by the span, a lane's stack may have no room for one more value.
+    /// That is if the stacks end at row `span.room` or above.
     #[inline(always)]
     fn need_room(&self, span: Span) -> Result<(), NotInAllLanes>
         ensures { IfOk result (λ _. self.now.len < span.room) }

@@ -106,7 +106,7 @@ pub fn in_all(value: u16) -> LaneValues
     [value; LANES]
 }
 
-/// Sets the value of one lane.
+/// Sets the value of one lane, from 0 to 63.
 #[inline(always)]
 pub fn put_value(values: &mut LaneValues, lane: usize, value: u16)
     requires lane { lane < LANES }
@@ -130,7 +130,7 @@ pub fn zeros(values: &LaneValues) -> LaneValues
     zeros
 }
 
-/// Returns the bit of an address line in each lane's address, 0 or 1.
+/// Returns the bit of an address line in each lane's address, 0 or 1. It is 0 for a line above 15.
 #[inline(always)]
 pub fn bits_of(addresses: &LaneValues, line: u8) -> LaneValues
     ensures { (lane : ℕ) → lane < LANES →

@@ -5,8 +5,8 @@ ghost use Rattle.cam6_table.specs.Internal.LinesRead.{HasLineOf, IsMaskFor};
 
 use crate::codes::{Code, Instruction};
 
-/// Returns a mask with the bit of each line that the code reads, and of the two lines that show the
-/// centre. A plane that isn't written keeps its centre.
+/// Returns a mask with the bit of each line that the code reads, and of lines 0 and 1, which show
+/// the centre. Bit k is for line k. A plane that isn't written keeps its centre.
 pub fn lines_read(code: &Code) -> u16
     ensures { IsMaskFor result code.now }
 {

@@ -19,8 +19,9 @@ pub struct Span {
     pub room: usize,
 }
 
-/// Returns the span of the lanes of a set, whose stacks end at row `top`. It holds for all of these
-/// lanes.
+/// Returns the span of the lanes of a set, whose stacks end at row `top`, at most 64. It says from
+/// which row all values are in place, where the highest stack begins, and where the first is full.
+/// It holds for all of these lanes.
 #[inline(always)]
 pub fn span_of(floors: &Floors, set: &LaneMask, top: usize) -> Span
     requires top { top ≤ ROWS }
