@@ -76,7 +76,8 @@ impl MidStep {
     }
 
     /// Makes the next sixteen rows, by the tables of the step, with scratch that it makes for this
-    /// band alone. Returns the step, or the whole image if these rows were the last.
+    /// band alone. Returns the step (`More`), or the whole image (`Whole`) if these rows were the
+    /// last.
     pub fn band(self, tables: &EntryTables) -> Next
         ensures next { let s = width self.planes in (o : Cells) →
             Partway o (step_by s (values_of tables.now) o) self →

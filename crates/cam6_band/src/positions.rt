@@ -50,8 +50,8 @@ fn tables_from<'a>(entry: Entry, index: usize, tables: &'a [Table]) -> EntryTabl
     }
 }
 
-/// Returns the table at an index, for a half with this rule. Returns `None` for a half without a
-/// rule.
+/// Returns the table at an index, counted from 0, for a half with this rule, with the rule's hood
+/// and minor. Returns `None` for a half without a rule. The index must be one of `tables`.
 fn half_table<'a>(
     rule: Option<HalfRule>,
     tables: &'a [Table],
