@@ -85,9 +85,9 @@ impl TableCache {
     }
 
     /// Copies or fills the key's true table to `out`, and returns whether it was cached before.
-    /// `code` must be that of the key's text, and the rule of an inverted key one that can be
-    /// undone. Allocates only to cache a new table. If that fails, the table isn't cached, and
-    /// `out` is right all the same.
+    /// `code` must be of the key's text, and an inverted key's rule one that can be undone. Caches
+    /// a new table, in the place of the one used longest ago if full. If an allocation for that
+    /// fails, `out` is right all the same.
     pub fn load(&mut self, key: &Key, code: &Code, out: &mut Table) -> bool
         requires code { IsCodeFor key.now.wiring key.now.text code.now }
         requires reversible { key.now.inverted ≡ true → IsReversibleKey key.now }
@@ -135,8 +135,8 @@ fn fill_true(key: &NamedKey, code: &Code, straight: &mut Table, out: &mut Table)
     }
 }
 
-/// Caches a copy of a table that wasn't cached. If the cache is full, drops the table that was used
-/// longest ago. If an allocation fails, caches nothing.
+/// Caches a copy of a table whose key must not be cached. If the cache is full, drops the table
+/// that was used longest ago. If an allocation fails, caches nothing, and drops none.
 fn keep(alloc: Global, tables: &mut LruCache<NamedKey, Table>, key: &NamedKey, table: &Table)
     requires absent { is_cached (key_of key.now) (tables_of tables.old.entries) ≡ false }
     ensures { (cached_of tables.new ≡ with_first (key_of key.now) table.now (cached_of tables.old))
