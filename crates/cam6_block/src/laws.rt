@@ -15,7 +15,7 @@ pub fn one_to_one_takes_each_state()
 {}
 
 /// If a table is reversible, two corners that see the same address had the same bits before the
-/// step.
+/// step, whatever their blocks and phases.
 pub fn corners_that_show_one_address_agree()
     ensures law { CornersAgree }
 {}

@@ -51,8 +51,8 @@ pub fn start(code: &Instructions) -> Place
 }
 
 /// Runs the code from a place to its end, and changes the state. Returns the fault if it stops
-/// before its end. `steps` falls by one with each instruction that is done. The code and `steps`
-/// must be at least `from.remaining`.
+/// before its end. `steps` falls by one with each instruction that is done. `from.remaining` must
+/// be at most the number of instructions, and at most `steps`.
 pub fn run(
     code: &Instructions,
     from: Place,

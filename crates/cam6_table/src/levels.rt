@@ -77,8 +77,8 @@ fn join_levels(high: &LaneMask, low: &LaneMask, from: usize, to: usize, lanes: &
 }
 
 /// Moves up the values above the gaps, so that the stacks of a set's lanes end at row `to` instead
-/// of row `from`, which isn't above it. Values below a gap stay where they are. A stack without a
-/// gap gets one at its top, so that all of its values stay.
+/// of row `from`. `to` isn't below `from`, and at most 64. Values below a gap stay where they are.
+/// A stack without a gap gets one at its top, so that all of its values stay.
 pub fn raise_stacks(set: &LaneMask, from: usize, to: usize, lanes: &mut Lanes)
     requires set { (lane : ℕ) → lane < LANES → IsIn set.now lane ⊎ IsOut set.now lane }
     requires up { from ≤ to }
