@@ -22,7 +22,7 @@ impl Model for Finished {
 }
 
 impl Finished {
-    /// Makes it of a machine after its command, and the reply for its user.
+    /// Makes a finished command of the machine after it and the reply for its user.
     pub(crate) fn new(machine: Machine, reply: Reply) -> Finished
         ensures machine { result.machine ≡ machine }
         ensures reply { result.told ≡ reply }

@@ -50,7 +50,7 @@ impl Lease {
     ghost use Rattle.cam6_block.specs.RuleTables.{IsTableBy};
 
     /// Makes the lease of steps that a board does. `rows` of the step under way are done: whole
-    /// bands, and fewer than all.
+    /// bands of 16, and fewer than all. It is 0 if no step is left. Boards are numbered from 0.
     pub(crate) fn new(work: Work, rows: u16, board: u8) -> Lease
         requires rows { rows < width work.home }
         requires bands { rows % band ≡ 0 }
@@ -68,8 +68,8 @@ impl Lease {
         self.board
     }
 
-    /// Returns how many bands are still to be done. If there are some, the job has steps left. If
-    /// there are none, its image is at rest.
+    /// Returns how many bands of 16 rows are still to be done, over all steps. If there are some,
+    /// the job has steps left. If there are none, its image is at rest.
     pub fn left(&self) -> u64
         ensures left { result ≡ lease_left self.now }
         // The invariant of a lease.
@@ -81,8 +81,8 @@ impl Lease {
         self.work.left(self.rows)
     }
 
-    /// Counts one band that was done on the board, and returns the lease. It finds out by itself
-    /// whether the band ends a step, and doesn't look at `end`.
+    /// Counts one band that was done on the board, and returns the lease. At least one was left. It
+    /// finds out by itself whether the band ends a step, and doesn't look at `end`.
     pub fn band(mut self, end: BandEnd) -> Lease
         requires { 0 < lease_left self }
         // For whatever machine and command, and whatever end the board reported.
@@ -102,8 +102,9 @@ impl Lease {
         self
     }
 
-    /// Counts one band that was done on the board. Does so in place, since a lease takes more than
-    /// a kilobyte. It finds out by itself whether the band ends a step, and doesn't look at `_end`.
+    /// Counts one band that was done on the board, of at least one that was left. Does so in place,
+    /// since a lease takes more than a kilobyte. It finds out by itself whether the band ends a
+    /// step, and doesn't look at `_end`.
     pub fn advance(&mut self, _end: BandEnd)
         requires { 0 < lease_left self.old }
         // For whatever machine and command, and whatever end the board reported.
@@ -152,7 +153,8 @@ impl Lease {
     }
 
     /// Makes the command wait for a board again, after the board has lost the image. All steps that
-    /// the image at home doesn't have are to be done again. The spare planes replace the lost ones.
+    /// the image at home doesn't have are to be done again. The spare planes replace the lost ones,
+    /// and have the same limit.
     pub fn lost(self, spare: Spare) -> Queued
         requires { spare.planes.limit ≡ self.work.home.limit }
         // For whatever machine and command.
@@ -187,7 +189,7 @@ impl Lease {
         self.work.needs()
     }
 
-    /// Returns of which rule a table is, and whether it undoes the rule. `index` is the table's
+    /// Returns which rule a table is for, and whether it undoes the rule. `index` is the table's
     /// number, from 0 to below `needs`. The tables go entry by entry, half A's before half B's.
     pub fn need(&self, index: u8) -> Need<'_>
         requires { index < needs_of self.now.work }

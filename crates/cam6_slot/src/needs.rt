@@ -21,8 +21,9 @@ pub struct Need<'a> {
     pub inverted: bool,
 }
 
-/// Returns of which rule the table of a use is, and whether it undoes the rule. `index` is the
-/// use's number, counted from 0.
+/// Returns which rule the table of a use is for, and whether it undoes the rule. `index` is the
+/// use's number, from 0 to below `Work::needs`. The uses go entry by entry, half A's before half
+/// B's.
 pub(crate) fn need_at(work: &Work, index: u8) -> Need<'_>
     requires { index < needs_of work.now }
     ensures need { IsNeed work.now index result }
@@ -47,7 +48,7 @@ pub(crate) fn need_at(work: &Work, index: u8) -> Need<'_>
 }
 
 /// Returns what the machine's cycle has on the table of a use: its half, its rule and its
-/// direction.
+/// direction. `index` is the use's number, from 0 to below `Work::needs`.
 fn needed_at(work: &Work, index: u8) -> NeededTable
     requires { index < needs_of work.now }
     ensures { slice_get (needed work.now) index ≡ Some result }
@@ -55,7 +56,8 @@ fn needed_at(work: &Work, index: u8) -> NeededTable
     work.cycle().tables_needed(work.direction())[usize::from(index)]
 }
 
-/// Whether steps in this direction use tables that undo their rules: backward steps do.
+/// Whether steps in this direction use tables that undo their rules. Backward steps do, forward
+/// steps don't.
 fn is_inverted(direction: Direction) -> bool
     ensures { way_told result ≡ direction }
 {

@@ -36,7 +36,7 @@ impl Parked {
     }
 
     /// Returns the parked step. If no step is parked, copies the image at home into the spare
-    /// planes and returns it at rest.
+    /// planes and returns it at rest. Spare planes have the limit of those at home.
     pub(crate) fn into_image(self, home: &AtRest) -> Image
         requires { HasRoomFor home.now.planes self }
         ensures { LeavesAs home.now.planes self result }

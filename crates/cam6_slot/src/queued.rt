@@ -34,7 +34,7 @@ impl Queued {
     ghost use Rattle.cam6_slot.specs.Stands.{Stands, StandsOut};
 
     /// Makes a command that waits for a board. At least one step is left. `parked` is its image
-    /// that isn't at home.
+    /// that isn't at home: spare planes of the same limit, or the next step half done.
     pub(crate) fn new(work: Work, parked: Parked) -> Queued
         requires some { work.reached.steps < work.total }
         requires parked { IsBeside work parked }
@@ -46,7 +46,7 @@ impl Queued {
         Queued { work, parked }
     }
 
-    /// Returns how many bands are still to be done, one at least.
+    /// Returns how many bands of 16 rows are still to be done, over all steps. It is at least 1.
     pub fn left(&self) -> u64
         ensures left { result ≡ queued_left self.now }
         ensures some { 0 < result }
@@ -56,8 +56,9 @@ impl Queued {
         self.work.left(self.parked.rows_done())
     }
 
-    /// Leases the command to a board. Returns the lease, and the job to load the board with. The
-    /// job goes on from the parked step, or from a copy of the image at home.
+    /// Leases the command to a board, whose number counts from 0. Returns the lease, and the job to
+    /// load the board with. The job goes on from the parked step, or from a copy of the image at
+    /// home.
     pub fn lease(self, board: u8) -> (Lease, Job)
         // For whatever machine and command.
         ensures stands { (m : Machine) (c : Command) →

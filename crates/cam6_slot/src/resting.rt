@@ -57,7 +57,7 @@ impl Resting {
     ghost use Rattle.cam6_slot.specs.Stands.{Stands};
     ghost use Rattle.cam6_slot.specs.Works.{machine_at_home, command_in};
 
-    /// Makes it of a machine that has no command under way.
+    /// Makes a resting machine of one that has no command under way.
     pub fn new(machine: Machine) -> Resting
         ensures { result ≡ machine }
     {
@@ -85,7 +85,8 @@ impl Resting {
         self.machine.now(command)
     }
 
-    /// Makes the command of these steps wait for a board. The machine's image is the one at home.
+    /// Makes a command of these steps wait for a board. Steps and direction are those that `now`
+    /// returned last. The machine's image is the one at home.
     pub fn queue(self, steps: u16, direction: Direction) -> Queued
         requires { CanWork (Now.Work steps direction) (machine_of self) }
         // For whatever machine and command they are said of.

@@ -56,8 +56,8 @@ impl Work {
     ghost use Rattle.cam6_slot.specs.Needs.{needs_of};
     ghost use Rattle.cam6_slot.specs.Works.{IsWork, begun, one_on, home_at, back_home};
 
-    /// Makes a command of so many steps. None is done yet, and `home` is the machine's image at
-    /// home.
+    /// Makes a command of `total` steps, at least one. None is done yet, and `home` is the
+    /// machine's image at home. The cycle is set, and can be gone along in this direction.
     pub(crate) fn begin(kept: Kept, direction: Direction, total: u16, home: AtRest) -> Work
         requires some { 0 < total }
         requires within { kept.position < length kept.cycle }
@@ -118,7 +118,8 @@ impl Work {
         }
     }
 
-    /// Returns how many bands are left if `rows` rows of the next step are done.
+    /// Returns how many bands of 16 rows are left of all steps, if `rows` rows of the next step are
+    /// done. There are fewer than the side, and 0 if no step is left.
     pub(crate) fn left(&self, rows: u16) -> u64
         requires rows { rows < width self.now.home }
         requires step { 0 < rows → self.now.reached.steps < self.now.total }
@@ -129,7 +130,7 @@ impl Work {
         steps * bands - u64::from(rows) / BAND as u64
     }
 
-    /// Returns how many tables the steps use.
+    /// Returns how many tables the steps use: one for each use of a rule in the cycle.
     pub(crate) fn needs(&self) -> u8
         ensures needs { result ≡ needs_of self.now }
         ensures few { result ≤ max_tables }
@@ -137,7 +138,8 @@ impl Work {
         self.cycle().tables_needed(self.direction).len() as u8
     }
 
-    /// Returns a job that does the rest of the steps on this image.
+    /// Returns a job that does the rest of the steps on this image, from the position after the
+    /// steps that are done.
     pub(crate) fn job(&self, image: Image) -> Job
         ensures image { result.image ≡ image }
         ensures cycle { result.cycle ≡ self.now.kept.cycle }
@@ -150,7 +152,8 @@ impl Work {
         Job::new(image, cycle, self.reached.position, self.direction, steps)
     }
 
-    /// Counts one more whole step as done, and moves the position on.
+    /// Counts one more whole step as done, and moves the position on in the command's direction. At
+    /// least one step is left.
     pub(crate) fn go(&mut self)
         requires { self.old.reached.steps < self.old.total }
         ensures { self.new ≡ one_on self.old }
@@ -162,8 +165,8 @@ impl Work {
         };
     }
 
-    /// Makes this image the one at home, which has all steps that are done. Returns the planes of
-    /// the old one as spare.
+    /// Makes this image, which has all steps that are done, the one at home. At least one step is
+    /// left. Returns the planes of the old one as spare.
     pub(crate) fn come_home(&mut self, image: AtRest) -> Spare
         requires some { self.old.reached.steps < self.old.total }
         requires limit { image.planes.limit ≡ self.old.home.limit }
@@ -175,16 +178,16 @@ impl Work {
         Spare::of(home.into_planes())
     }
 
-    /// Counts only those steps as done that the image at home has. Moves the position back
-    /// likewise.
+    /// Counts only those steps as done that the image at home has. Sets the position back to the
+    /// one after these steps.
     pub(crate) fn go_back(&mut self)
         ensures { self.new ≡ back_home self.old }
     {
         self.reached = self.base;
     }
 
-    /// Finishes the command, all of whose steps are done. Returns the machine with this image, and
-    /// the reply for its user.
+    /// Finishes the command, all of whose steps are done. Returns the machine with this image at
+    /// the position that was reached, and the reply for its user.
     pub(crate) fn finish(self, image: AtRest) -> Finished
         requires { image.planes.limit ≡ self.home.limit }
         ensures { result ≡ finished_with self image.planes }
@@ -204,14 +207,15 @@ impl Work {
     }
 }
 
-/// Returns the number of bands of one step.
+/// Returns the number of bands of one step: a sixteenth of the side.
 fn bands_of_step(side: Side) -> u64
     ensures bands { result ≡ bands_of_step side }
 {
     (side.number() / BAND) as u64
 }
 
-/// Returns the reply to `run` or `back` after its last step: its word, and the position.
+/// Returns the reply after the last step: `Run` for forward steps or `Back` for backward ones, with
+/// the position in the cycle.
 fn reply_at(direction: Direction, position: usize) -> Reply
     ensures { result ≡ reply_at direction position }
 {
