@@ -31,7 +31,8 @@ impl Filling {
     ghost use Rattle.cam6_slot.specs.Needs.{needs_of};
     ghost use Rattle.cam6_station.specs.Loading.{FillsOne, LoadsOne, IsAfterLoads};
 
-    /// Allocates the tables. Their entries may be anything until they are filled.
+    /// Allocates the tables. Their entries may be anything until they are filled. Fails only if an
+    /// allocation fails.
     pub fn new(alloc: Global) -> Result<Filling, NoMemory> {
         Ok(Filling {
             key: Key::scratch(alloc)?,
@@ -40,7 +41,7 @@ impl Filling {
         })
     }
 
-    /// Returns the tables, as they were filled last.
+    /// Returns the tables, as they were filled last. Those of a lease are in the order of its uses.
     pub fn tables(&self) -> &Tables
         ensures { result.now ≡ self.now }
     {
@@ -60,9 +61,9 @@ impl Filling {
         }
     }
 
-    /// Fills the table of one use of a rule, counted from 0. Copies it from the cache, or caches
-    /// it. Returns whether the cache had it. Allocates only to cache a table. If that fails, the
-    /// table isn't cached, and is right all the same.
+    /// Fills one of the tables that the lease needs. `index` is its number, as `Lease::need` takes
+    /// it. Returns true if the cache had it. If not, builds it and caches it. If it can't be
+    /// allocated in the cache, it isn't cached, and is right all the same.
     pub fn fill_one(&mut self, cache: &mut TableCache, lease: &Lease, index: u8) -> bool
         requires { index < needs_of lease.now.work }
         ensures table { FillsOne lease.now.work index self.old self.new }

@@ -81,7 +81,7 @@ impl<B: Board> Station<B> {
     ghost use Rattle.cam6_station.specs.Held.{idle, loaded, dead, IsFit, IsLoaded, IsAlive};
     ghost use Rattle.cam6_station.specs.Held.{is_idle, is_loaded, is_dead, lease_on, rows_on};
 
-    /// Makes an idle station with this board, which has to be empty.
+    /// Makes an idle station with this board, which has to hold nothing.
     pub fn of(board: B) -> Station<B>
         requires { B.held board ≡ empty }
         ensures { result ≡ record { at = idle; faults = B.fault_count board } }
@@ -92,7 +92,8 @@ impl<B: Board> Station<B> {
         }
     }
 
-    /// Returns the station's board, which has to hold nothing.
+    /// Returns the station's board. The station has to be idle or dead, so that the board holds
+    /// nothing.
     pub fn into_board(self) -> B
         requires { is_loaded self.at ≡ false }
         ensures empty { B.held result ≡ empty }
@@ -134,16 +135,17 @@ impl<B: Board> Station<B> {
         }
     }
 
-    /// Returns how many rows of the step under way are done, or `None` if the board holds no
-    /// command.
+    /// Returns how many rows of the step under way are done, from 0 to below the side. Returns
+    /// `None` if the board holds no command.
     pub fn rows(&self) -> Option<u16>
         ensures { result ≡ rows_on self.now.at }
     {
         self.board.rows()
     }
 
-    /// Loads an idle station with the lease of a user. If the board fails, the station is dead.
-    /// Then returns the command as `Err`. It waits again, from its image at home.
+    /// Loads an idle station with a user's lease, its job and its tables. At least one band is
+    /// left. If the board fails, the station is dead, and the command comes back as `Err`. It waits
+    /// again, from its image at home.
     pub fn load(
         &mut self,
         user: User,
@@ -176,9 +178,10 @@ impl<B: Board> Station<B> {
         }
     }
 
-    /// Does one band on the board, and counts it in the lease. After the command's last band,
-    /// returns the finished command, and the board is idle. If the board fails, the station is
-    /// dead, and the command that is returned waits again from its image at home.
+    /// Does one band on the board, which has to hold a command, and counts it in the lease. After
+    /// the command's last band, returns the finished command, and the board is idle. If the board
+    /// fails, the station is dead, and the command that is returned waits again from its image at
+    /// home.
     pub fn band(&mut self) -> Banded
         requires { IsLoaded self.old.at }
         ensures gives { BandGives self.old.at result self.new.at }
@@ -210,8 +213,9 @@ impl<B: Board> Station<B> {
         }
     }
 
-    /// Takes the user's command off the board, and returns it. The board is idle then. If the board
-    /// fails, it is dead, and the command waits again from its image at home.
+    /// Takes the user's command off the board, which has to hold one, and returns it. The board is
+    /// idle then. If the board fails, it is dead, and the command waits again from its image at
+    /// home.
     pub fn preempt(&mut self) -> Preempted
         requires { IsLoaded self.old.at }
         ensures gives { PreemptGives self.old.at result self.new.at }
@@ -229,8 +233,9 @@ impl<B: Board> Station<B> {
         }
     }
 
-    /// Makes the board fail: it is dead, and loses what it holds. Returns the user and the command
-    /// that it held, or `None`. The command waits again from its image at home.
+    /// Makes a board fail that hasn't failed: it is dead, and loses what it holds. Returns the user
+    /// and the command that it held, which waits again from its image at home. Returns `None` if it
+    /// held none.
     pub fn fail(&mut self) -> Option<(User, Queued)>
         requires { IsAlive self.old.at }
         ensures back { FailGives self.old.at result }
@@ -247,7 +252,7 @@ impl<B: Board> Station<B> {
         Some((user, lease.lost(spare)))
     }
 
-    /// Makes a station idle whose board has failed.
+    /// Makes a dead station idle again.
     pub fn repair(&mut self)
         requires { self.old.at ≡ dead }
         ensures { self.new ≡ record { at = idle; faults = self.old.faults } }
@@ -256,7 +261,7 @@ impl<B: Board> Station<B> {
     }
 }
 
-/// Replaces a post that has a lease by `after`. Returns the user and the lease.
+/// Replaces a post that has a lease, `Loaded`, by `after`. Returns the user and the lease.
 fn take_lease(post: &mut Post, after: Post) -> (User, Lease)
     requires { HasLease post.old }
     ensures was { post.old ≡ Post.Loaded result.0 result.1 }
@@ -268,7 +273,7 @@ fn take_lease(post: &mut Post, after: Post) -> (User, Lease)
     }
 }
 
-/// Returns the image that this image is, which has to be at rest.
+/// Returns the image as one at rest. It must not be in the middle of a step.
 fn at_rest(image: Image) -> AtRest
     requires { is_rest image ≡ true }
     ensures { image ≡ Image.Rest result }

@@ -24,7 +24,7 @@ impl Model for User {
 }
 
 impl User {
-    /// Returns the user with this number, 1 to 32.
+    /// Returns the user with this number, which has to be from 1 to 32.
     pub fn numbered(number: usize) -> User
         requires a_user { 0 < number }
         requires few { number ≤ max_users }
