@@ -43,8 +43,9 @@ impl Core {
         }
     }
 
-    /// Gives a user's machine a command. Returns how many bands it needs, which is 0 if its reply
-    /// is already there. If an allocation fails, the machine is as it was.
+    /// Gives a user's machine a command. The user has no other one. Returns how many bands it
+    /// needs, which is 0 if its reply is already there. If an allocation fails, returns `NoMemory`,
+    /// and the machine is as it was.
     fn ask(&mut self, user: User, command: Command) -> Outcome
         requires { is_waiting ((standing self.old).user user) ≡ false }
         ensures takes { Takes self.old (event.Ask user command) result self.new }
@@ -71,8 +72,8 @@ impl Core {
         }
     }
 
-    /// Puts a user's command on an idle board, after its tables are filled. Returns how many bands
-    /// are left.
+    /// Puts a user's command, which has to wait for a board, on an idle board, after filling its
+    /// tables. Boards are counted from 0. Returns how many bands are left.
     fn lease(&mut self, user: User, board: u64) -> Outcome
         requires board { is_idle ((standing self.old).board board) ≡ true }
         requires user { is_queued ((standing self.old).user user) ≡ true }
@@ -90,8 +91,8 @@ impl Core {
         Outcome::Leased(left)
     }
 
-    /// Does one band on a board, and returns how many bands of its command are left. After the last
-    /// one the reply waits to be collected, and the board is idle.
+    /// Does one band on a board that holds a command. Returns how many bands of the command are
+    /// left. After the last one the reply waits to be collected, and the board is idle.
     fn band(&mut self, board: u64) -> Outcome
         requires { is_loaded ((standing self.old).board board) ≡ true }
         ensures takes { Takes self.old (event.Band board) result self.new }
@@ -107,8 +108,8 @@ impl Core {
         }
     }
 
-    /// Takes the command off a board, which is idle then. The command waits for a board again.
-    /// Returns how many bands are left.
+    /// Takes the command off a board that holds one. The board is idle then, and the command waits
+    /// for a board again. Returns how many bands are left.
     fn preempt(&mut self, board: u64) -> Outcome
         requires { is_loaded ((standing self.old).board board) ≡ true }
         ensures takes { Takes self.old (event.Preempt board) result self.new }
@@ -121,8 +122,8 @@ impl Core {
         Outcome::Preempted(left)
     }
 
-    /// Makes a board fail. The command that it held waits again, from its image at home. Returns
-    /// how many bands are left then, or no number if the board held nothing.
+    /// Makes a board fail that hasn't failed. The command that it held waits again, from its image
+    /// at home. Returns how many bands are left then, or no number if the board held nothing.
     fn fail(&mut self, board: u64) -> Outcome
         requires there { is_missing ((standing self.old).board board) ≡ false }
         requires alive { is_dead ((standing self.old).board board) ≡ false }
@@ -148,7 +149,7 @@ impl Core {
         Outcome::Repaired
     }
 
-    /// Drops the cached table that was used longest ago.
+    /// Drops the cached table that was used longest ago. Does nothing if no table is cached.
     fn evict(&mut self) -> Outcome
         ensures takes { Takes self.old event.Evict result self.new }
         ensures others { Spares event.Evict self.old self.new }
@@ -159,7 +160,8 @@ impl Core {
         Outcome::Evicted
     }
 
-    /// Returns a user's reply. Their machine has no command after it.
+    /// Returns the reply of a user, whose command has to be finished. Their machine has no command
+    /// after it.
     fn collect(&mut self, user: User) -> Outcome
         requires { is_finished ((standing self.old).user user) ≡ true }
         ensures takes { Takes self.old (event.Collect user) result self.new }

@@ -29,7 +29,8 @@ impl Core {
 }
 
 impl Core {
-    /// Returns why an ask is refused, whatever its command. Returns `None` if it isn't refused.
+    /// Returns why an ask is refused, whatever its command: there is no such user, or their last
+    /// reply isn't collected. Returns `None` if it isn't refused.
     fn ask_refusal(&self, user: u64) -> Option<Refused>
         // Whatever is asked.
         ensures { (c : Command) → result ≡ refusal (standing self.now) (event.Ask user c) }
@@ -43,8 +44,8 @@ impl Core {
         None
     }
 
-    /// Returns why a lease is refused, or `None` if it isn't. It checks the user's and the board's
-    /// number first, then the board, then the user.
+    /// Returns why a lease is refused, or `None` if it isn't. The first cause counts: no such user
+    /// or board, a dead board, a board that isn't idle, a user without a waiting command.
     fn lease_refusal(&self, user: u64, board: u64) -> Option<Refused>
         ensures { result ≡ refusal (standing self.now) (event.Lease user board) }
     {
@@ -63,8 +64,8 @@ impl Core {
         None
     }
 
-    /// Returns why an event is refused that needs a board with a command: a band or a preempt.
-    /// Returns `None` if the board has one.
+    /// Returns why a band or a preempt of a board is refused: there is no such board, it has
+    /// failed, or it holds no command. Returns `None` if it holds one.
     fn loaded_refusal(&self, board: u64) -> Option<Refused>
         ensures { result ≡ loaded_refusal ((standing self.now).board board) }
     {

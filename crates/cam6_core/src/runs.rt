@@ -8,8 +8,8 @@ use cam6_commands::{Event, Outcome};
 use cam6_planes::NoMemory;
 use std::alloc::Global;
 
-/// Does events one after another, and returns their outcomes. If the list of outcomes can't be
-/// allocated, does none of the events.
+/// Does events one after another, and returns their outcomes, one for each event. If the list of
+/// outcomes can't be allocated, does none of the events.
 pub fn run(alloc: Global, core: &mut Core, events: Vec<Event>) -> Result<Vec<Outcome>, NoMemory>
     // If the core was new, the replies that each user is given are, in order, those of their
     // machine alone to their accepted commands. It evaluates rule words cell by cell.

@@ -29,7 +29,7 @@ impl Model for SoftStation {
 }
 
 impl SoftStation {
-    /// Makes an idle station, whose board never fails.
+    /// Makes an idle station, whose board never fails of itself. Fails only if an allocation fails.
     pub(crate) fn new(alloc: Global) -> Result<SoftStation, NoMemory>
         ensures { IfOk result (λ station. station ≡ idle) }
     {
@@ -60,7 +60,8 @@ impl SoftStation {
         self.station.is_dead()
     }
 
-    /// Loads an idle station with the lease of a user, its job and its tables. Never fails.
+    /// Loads an idle station with the lease of a user, its job and its tables. At least one band is
+    /// left. Never fails.
     pub(crate) fn load(&mut self, user: User, lease: Lease, job: Job, tables: &Tables)
         requires idle { self.old ≡ idle }
         requires job { JobFits lease job }
@@ -78,8 +79,9 @@ impl SoftStation {
         }
     }
 
-    /// Does one band on the board, and counts it in the lease. After the command's last band,
-    /// returns the finished command, and the board is idle.
+    /// Does one band on the board, which has to hold a command, and counts it in the lease. After
+    /// the command's last band, returns the finished command, and the board is idle. Never returns
+    /// `Lost`.
     pub(crate) fn band(&mut self) -> Banded
         requires { IsLoaded self.old }
         ensures gives { BandGives self.old result self.new }
@@ -91,7 +93,8 @@ impl SoftStation {
         banded
     }
 
-    /// Takes the command off the board, which is idle after that. Returns the user and the command.
+    /// Takes the command off the board, which has to hold one, and is idle after that. Returns the
+    /// user and the command.
     pub(crate) fn preempt(&mut self) -> (User, Queued)
         requires { IsLoaded self.old }
         ensures back { PreemptGives self.old (Preempted.Back result.0 result.1) idle }
@@ -106,8 +109,9 @@ impl SoftStation {
         }
     }
 
-    /// Makes the board fail: it is dead, and loses what it holds. Returns the user and the command
-    /// that it held, or `None`. The command waits again from its image at home.
+    /// Makes a board fail that hasn't failed: it is dead, and loses what it holds. Returns the user
+    /// and the command that it held, which waits again from its image at home. Returns `None` if it
+    /// held none.
     pub(crate) fn fail(&mut self) -> Option<(User, Queued)>
         requires { IsAlive self.old }
         ensures back { FailGives self.old result }
@@ -116,7 +120,7 @@ impl SoftStation {
         self.station.fail()
     }
 
-    /// Makes a station idle whose board has failed.
+    /// Makes a dead station idle again.
     pub(crate) fn repair(&mut self)
         requires { self.old ≡ dead }
         ensures { self.new ≡ idle }

@@ -18,8 +18,9 @@ use cam6_station::Filling;
 use std::alloc::Global;
 
 impl Core {
-    /// Makes a core of so many users and idle boards, with an empty cache for `cache` tables. Each
-    /// user has a blank machine. Its limit is at the user's row of `limits`.
+    /// Makes a core of 1 to 32 users and 1 to 8 idle boards, with an empty cache for `cache`
+    /// tables, 1 to 64. Each user has a blank machine. The largest side that it may have is at the
+    /// user's row of `limits`, which has one for each user.
     pub fn new(
         alloc: Global,
         users: usize,
@@ -52,8 +53,8 @@ impl Core {
     }
 }
 
-/// Returns the whereabouts of so many users. Each has a blank machine and no command. The machine's
-/// limit is at the user's row of `limits`.
+/// Returns the whereabouts of so many users. Each has a blank machine and no command. The largest
+/// side that it may have is at the user's row of `limits`, which has one for each user.
 fn newcomers(alloc: Global, users: usize, limits: &[Side]) -> Result<Vec<Whereabouts>, NoMemory>
     requires { length limits.now ≡ users }
     ensures { IfOk result (λ made. AreNewcomers limits.now made.items) }

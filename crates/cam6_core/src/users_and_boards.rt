@@ -18,7 +18,8 @@ use cam6_station::{Banded, Preempted, User};
 use std::mem;
 
 impl Core {
-    /// Returns the user with this number, who has to exist. There are at most 32 users.
+    /// Returns the user with this number, counted from 1, who has to exist. There are at most 32
+    /// users.
     pub(crate) fn user_of(&self, number: u64) -> User
         requires { is_missing ((standing self.now).user number) ≡ false }
         ensures { result ≡ number }
@@ -27,7 +28,7 @@ impl Core {
         User::numbered(number as usize)
     }
 
-    /// Returns a user's whereabouts, and leaves `Out` in their place.
+    /// Returns the whereabouts of a user of this core, and leaves `Out` in their place.
     pub(crate) fn take_user(&mut self, user: User) -> Whereabouts
         requires { IsNumber (length self.old.users) user }
         ensures was { at_number self.old.users user ≡ Some result }
@@ -37,7 +38,7 @@ impl Core {
         mem::replace(&mut self.users[user.row()], Whereabouts::Out)
     }
 
-    /// Replaces a user's whereabouts.
+    /// Replaces the whereabouts of a user of this core, and drops the old ones.
     pub(crate) fn set_user(&mut self, user: User, whereabouts: Whereabouts)
         requires { IsNumber (length self.old.users) user }
         ensures { self.new ≡ with_user self.old user whereabouts }
@@ -45,8 +46,8 @@ impl Core {
         drop(mem::replace(&mut self.users[user.row()], whereabouts));
     }
 
-    /// Returns the number of an idle board as a byte, as a lease has it. There are at most 8
-    /// boards.
+    /// Returns the number of an idle board, counted from 0, as a byte, as a lease has it. There are
+    /// at most 8 boards.
     pub(crate) fn board_number(&self, board: u64) -> u8
         requires { slice_get self.now.boards board ≡ Some idle }
         ensures { result ≡ board }
@@ -56,6 +57,7 @@ impl Core {
     }
 
     /// Fills the tables of a user's lease, and then loads an idle board with the lease and its job.
+    /// Boards are counted from 0. At least one band is left.
     pub(crate) fn load(&mut self, board: u64, user: User, lease: Lease, job: Job)
         requires user { IsNumber (length self.old.users) user }
         requires board { slice_get self.old.boards board ≡ Some idle }
@@ -77,8 +79,8 @@ impl Core {
         station.load(user, lease, job, self.filling.tables());
     }
 
-    /// Does one band on a board that holds a command. Returns how many bands are left, or the
-    /// finished command with its user.
+    /// Does one band on a board that holds a command. Returns how many bands are left, or after the
+    /// last one the finished command with its user.
     pub(crate) fn run_band(&mut self, board: u64) -> Banded
         requires { IsLoaded (board_of self.old board) }
         ensures gives { BandGives (board_of self.old board) result (board_of self.new board) }
@@ -89,7 +91,8 @@ impl Core {
         self.boards[board as usize].band()
     }
 
-    /// Takes the command off a board, and returns its user and the command.
+    /// Takes the command off a board that holds one, which is idle then. Returns the user and the
+    /// command.
     pub(crate) fn preempt_board(&mut self, board: u64) -> (User, Queued)
         requires { IsLoaded (board_of self.old board) }
         ensures back { PreemptGives (board_of self.old board)
@@ -100,8 +103,8 @@ impl Core {
         self.boards[board as usize].preempt()
     }
 
-    /// Makes a board fail. Returns the user and the command that it held, or `None` if it held
-    /// none.
+    /// Makes a board fail that hasn't failed. Returns the user and the command that it held, which
+    /// waits again from its image at home. Returns `None` if it held none.
     pub(crate) fn fail_board(&mut self, board: u64) -> Option<(User, Queued)>
         requires { IsAlive (board_of self.old board) }
         ensures back { FailGives (board_of self.old board) result }
