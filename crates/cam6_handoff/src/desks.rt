@@ -65,9 +65,9 @@ impl Desk {
         self.resting.is_none()
     }
 
-    /// Does a command without steps, and returns its reply. The steps of any other command wait for
-    /// a board: then returns `Waiting`. Allocates all memory of the command. If that fails, the
-    /// desk is as it was.
+    /// Gives the desk a command while it waits for no reply. Does one without steps at once, and
+    /// returns its reply. Any other one waits for a board: then returns `Waiting`. Allocates all
+    /// memory of the command. If that fails, the desk is as it was.
     pub fn put(&mut self, command: Command) -> Result<Put, NoMemory>
         requires { IsResting self.old }
         ensures gives { IfOk result (λ put. PutGives self.old command put self.new) }
@@ -105,8 +105,8 @@ impl Desk {
         Some(reply)
     }
 
-    /// Does a command and returns its reply. Waits if a board has to do its steps. If an allocation
-    /// fails, the desk is as it was.
+    /// Does a command and returns its reply. The desk must not wait for another reply. Sleeps until
+    /// boards have done the command's steps. If an allocation fails, the desk is as it was.
     pub fn ask<R: Wait>(&mut self, rt: &R, command: Command) -> Result<Reply, NoMemory>
         requires { IsResting self.old }
         ensures gives { IfOk result (λ reply. AskGives self.old command reply self.new) }
@@ -119,8 +119,8 @@ impl Desk {
         }
     }
 
-    /// Waits for the reply to the command that was put, and returns it. `ask` calls it if `put`
-    /// returns `Waiting`.
+    /// Sleeps until the command that was put is finished, and returns its reply. The desk has to
+    /// wait for one. `ask` calls it if `put` returns `Waiting`.
     pub fn wait<R: Wait>(&mut self, rt: &R) -> Reply
         requires { is_waiting self.old ≡ true }
         ensures { CollectGives self.old (Some result) self.new }
@@ -146,7 +146,8 @@ impl Desk {
     }
 }
 
-/// Makes the desk of a row with a machine. `seat` is its token, which has taken the row's slot.
+/// Makes the desk of a row with a machine. Rows are counted from 0: user 1 has row 0. `seat` is its
+/// token, which has taken the row's slot.
 pub(crate) fn desk_of(table: Arc<HandTable>, seat: Token, row: usize, resting: Resting) -> Desk
     requires at { IsAt (arc_value table).shared.table_id (arc_value table).shared.key.users
         seat.table_id row }

@@ -6,7 +6,7 @@ pub fn blank_desks_rest()
     ensures law { BlankDesksRest }
 {}
 
-/// Each desk that `boot` makes is that of its own user.
+/// Each desk that `boot` makes is that of its own user. The first desk is that of user 1.
 pub fn blank_desks_are_their_users()
     ensures law { BlankDesksAreTheirUsers }
 {}

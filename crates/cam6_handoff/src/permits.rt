@@ -15,8 +15,8 @@ pub(crate) struct FillPermit {
     expensive: AtomicU32,
 }
 
-/// Returns a word in which only the row's bit is 1. There is a bit for each user, since there are
-/// at most 32 (`MAX_USERS`).
+/// Returns a word in which only the row's bit is 1: row 0 has the lowest bit. There is a bit for
+/// each user, since there are at most 32 (`MAX_USERS`).
 fn bit_of(row: usize) -> u32 {
     1u32.wrapping_shl((row % 32) as u32)
 }
@@ -42,18 +42,19 @@ impl FillPermit {
     }
 
     /// Returns what `note` wrote last for the row's user: whether their command made many tables.
-    /// It is false before the first `note`.
+    /// It is false before the first `note`. Rows are counted from 0.
     pub fn is_expensive(&self, row: usize) -> bool {
         self.expensive.load(Ordering::SeqCst) & bit_of(row) != 0
     }
 
-    /// Whether the command in a row must wait without a board: a seat has the permit, and the last
-    /// command of the row's user made many tables.
+    /// Whether the command in a row, counted from 0, must wait without a board. It must if a seat
+    /// has the permit, and the last command of the row's user made many tables.
     pub fn holds_back(&self, row: usize) -> bool {
         self.taken.load(Ordering::SeqCst) != 0 && self.is_expensive(row)
     }
 
-    /// Notes whether a command of the row's user made many tables, or still has to make many.
+    /// Notes whether a command of the row's user made many tables, or still has to make many. Rows
+    /// are counted from 0: user 1 has row 0.
     pub fn note(&self, row: usize, is_expensive: bool) {
         let bit = bit_of(row);
         if is_expensive {

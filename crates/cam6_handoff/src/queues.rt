@@ -31,7 +31,7 @@ impl Queue {
     }
 }
 
-/// Makes a `Queue` that looks at the words of a table of so many users.
+/// Makes a `Queue` that looks at the words of a table. `users` is the number of its users.
 pub(crate) fn queue_of(table: Arc<HandTable>, users: usize, permit: Arc<FillPermit>) -> Queue
     requires { (arc_value table).shared.table_id.words ≡ users }
 {

@@ -65,7 +65,7 @@ impl BoardSeat {
         self.board
     }
 
-    /// Returns the number of users, who are numbered from 1.
+    /// Returns the number of users of the table, who are numbered from 1. There are at most 32.
     pub fn users(&self) -> usize
         ensures users { result ≡ self.now.users }
         ensures few { result ≤ max_users }
@@ -74,16 +74,16 @@ impl BoardSeat {
     }
 
     /// Makes a `Queue`, which tells whether other commands wait. Whoever decides when to preempt a
-    /// board needs it.
+    /// board needs it. Fails only if an allocation fails.
     pub fn queue(&self) -> Result<Queue, NoMemory> {
         let table = Arc::clone(&self.table)?;
         let permit = Arc::clone(&self.permit)?;
         Ok(queue_of(table, self.users, permit))
     }
 
-    /// Takes the command of `user`, counted from 1, if it waits for a board. Returns its lease, and
-    /// the job to load the board with. If it doesn't wait, returns `None`, and the seat still holds
-    /// nothing.
+    /// Takes the command of `user`, counted from 1, if it waits for a board. The seat has to hold
+    /// nothing. Returns the lease, and the job to load the board with. If no command waits, returns
+    /// `None`, and the seat still holds nothing.
     pub fn try_take(&mut self, user: usize) -> Option<(Lease, Job)>
         requires idle { IsIdle self.old }
         requires a_user { 0 < user }
@@ -96,7 +96,8 @@ impl BoardSeat {
         Some(queued.lease(self.board))
     }
 
-    /// Gives the user's command back to the table, to wait for a board again.
+    /// Gives the command that the seat took back to the table, to wait for a board again. It has to
+    /// stand for the command that was taken. The seat then holds nothing.
     pub fn put_back(&mut self, queued: Queued)
         requires { Accepts self.old.holds queued }
         ensures { self.new ≡ emptied self.old }
@@ -107,7 +108,8 @@ impl BoardSeat {
         steps::give_back(&self.table.shared, &mut self.seat, row, queued);
     }
 
-    /// Gives the finished command to the user's desk, and wakes the desk.
+    /// Gives the finished command that the seat took to its user's desk, and wakes the desk. The
+    /// seat then holds nothing.
     pub fn put_done(&mut self, finished: Finished)
         requires { AcceptsDone self.old.holds finished }
         ensures { self.new ≡ emptied self.old }
@@ -119,7 +121,7 @@ impl BoardSeat {
     }
 
     /// Fills the tables that a lease needs, in the order of their uses. Copies what the cache has,
-    /// and caches what it lacks.
+    /// and caches what it lacks. If a table can't be allocated in the cache, it isn't cached.
     pub fn fill(&mut self, lease: &Lease, cache: &mut TableCache)
         ensures tables { TablesFit lease.now.work self.new.tables }
         ensures others { self.new ≡ record self.old { tables = self.new.tables } }
@@ -167,8 +169,8 @@ impl BoardSeat {
         true
     }
 
-    /// Whether a command of the user must wait longer for a board: another seat makes many tables,
-    /// and the user's last command made many too.
+    /// Whether a command of the user must wait longer for a board. It must if a seat makes many
+    /// tables, and the user's last command made many too.
     pub fn is_held_back(&self, user: User) -> bool {
         self.permit.holds_back(user.row())
     }
@@ -181,10 +183,10 @@ impl BoardSeat {
     }
 }
 
-/// Fills the tables of a lease from index `from` on, each under the cache's lock. Stops after
-/// `most` tables that the cache lacked. Returns the index after the last table filled, and how many
-/// tables the cache lacked. A seat that waits for the lock has it before one that has already had
-/// it.
+/// Fills the tables of a lease from index `from` on, each under the cache's lock. Those before
+/// `from` are filled. Stops after `most` tables that the cache lacked. Returns the index after the
+/// last table filled, and how many tables the cache lacked. A seat that waits for the lock has it
+/// before one that has already had it.
 fn fill_at_most<R: Wait>(
     rt: &R,
     permit: &FillPermit,
@@ -216,7 +218,8 @@ fn fill_at_most<R: Wait>(
     (lease.needs(), lacked)
 }
 
-/// Makes the seat of an idle board, which holds no command.
+/// Makes the seat of an idle board, which holds no command. Boards are numbered from 0. `seat` is
+/// the board's token.
 pub(crate) fn seat_of(
     table: Arc<HandTable>,
     seat: Token,

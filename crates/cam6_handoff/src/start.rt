@@ -41,8 +41,8 @@ impl Split<View> for BoardCut {
     ghost right = { new_board };
 }
 
-/// Splits the token of a row's desk off `first`, and takes the row's slot with it. Returns the desk
-/// with this machine.
+/// Splits the token of a row's desk off `first`, and takes the row's slot with it. Rows are counted
+/// from 0, and this one is the next. Returns the desk with this machine.
 fn cut_desk(table: Arc<HandTable>, first: &mut Token, row: usize, resting: Resting) -> Desk
     requires of { IsFirstOf (arc_value table).shared.table_id
         (arc_value table).shared.key.users first.old.table_id }
@@ -57,8 +57,8 @@ fn cut_desk(table: Arc<HandTable>, first: &mut Token, row: usize, resting: Resti
     desk_of(table, seat, row, resting)
 }
 
-/// Splits the token of the next board off `first`. Returns the board's seat, which holds no
-/// command.
+/// Splits the token of a board off `first`. Boards are counted from 0, and this one is the next.
+/// Returns the board's seat, which holds no command.
 fn cut_board(
     table: Arc<HandTable>,
     first: &mut Token,
@@ -80,8 +80,8 @@ fn cut_board(
     seat_of(table, seat, board, users, filling, permit)
 }
 
-/// Splits a token off `first` for each user. Returns their desks, each with a blank machine of the
-/// user's limit.
+/// Splits a token off `first` for each user. Returns their desks, from user 1 on, each with a blank
+/// machine. The largest side that it may have is at the user's row of `limits`.
 fn cut_desks(
     alloc: Global,
     table: &Arc<HandTable>,
@@ -101,8 +101,9 @@ fn cut_desks(
     Ok(desks)
 }
 
-/// Adds a desk for each user to `desks`, with a blank machine of the user's limit. Splits their
-/// tokens off `first`.
+/// Adds a desk for each user, from user 1 on, to `desks`, which is empty. Each has a blank machine.
+/// The largest side that it may have is at the user's row of `limits`. Splits the tokens off
+/// `first`.
 fn add_desks(
     alloc: Global,
     table: &Arc<HandTable>,
@@ -126,7 +127,8 @@ fn add_desks(
     Ok(())
 }
 
-/// Makes the next desk, with a blank machine of this limit. Splits its token off `first`.
+/// Makes the desk of the next row, counted from 0, with a blank machine. `limit` is the largest
+/// side that it may have. Splits the desk's token off `first`.
 fn new_desk(
     alloc: Global,
     table: &Arc<HandTable>,
@@ -147,7 +149,8 @@ fn new_desk(
     Ok(cut_desk(table, first, row, resting))
 }
 
-/// Splits a token off `first` for each board. Returns their seats.
+/// Splits a token off `first` for each board. Returns their seats, from board 0 on, which hold no
+/// command.
 fn cut_seats(
     alloc: Global,
     table: &Arc<HandTable>,
@@ -168,7 +171,8 @@ fn cut_seats(
     Ok(seats)
 }
 
-/// Adds a seat for each board to `seats`. Splits their tokens off `first`.
+/// Adds a seat for each board, from board 0 on, to `seats`, which is empty. Splits their tokens off
+/// `first`.
 fn add_seats(
     alloc: Global,
     table: &Arc<HandTable>,
@@ -193,7 +197,8 @@ fn add_seats(
     Ok(())
 }
 
-/// Makes the next board's seat, and allocates its tables. Splits its token off `first`.
+/// Makes the seat of the next board, counted from 0, and allocates its tables. Splits its token off
+/// `first`.
 fn new_seat(
     alloc: Global,
     table: &Arc<HandTable>,
@@ -216,8 +221,9 @@ fn new_seat(
     Ok(cut_board(table, first, users, board, filling, permit))
 }
 
-/// Splits the tokens of all desks and seats off `first`. Returns a desk for each user, with a blank
-/// machine of the user's limit, and a seat for each board.
+/// Splits the tokens of all desks and seats off `first`. Returns a desk for each user, from user 1
+/// on, and a seat for each board, from board 0 on. Each desk has a blank machine. The largest side
+/// that it may have is at the user's row of `limits`.
 fn cut(
     alloc: Global,
     table: &Arc<HandTable>,
@@ -240,8 +246,10 @@ fn cut(
     Ok((desks, seats))
 }
 
-/// Makes a table for so many users and boards. Returns a desk for each user, with a blank machine
-/// of their limit, and an idle seat for each board. Allocates all memory of the hand-off.
+/// Makes a table for 1 to 32 users and 1 to 8 boards. Returns a desk for each user, from user 1 on,
+/// and an idle seat for each board, from board 0 on. Each desk has a blank machine. The largest
+/// side that it may have is at the user's row of `limits`, one for each user. Allocates all memory
+/// of the hand-off.
 pub fn boot(
     alloc: Global,
     users: usize,

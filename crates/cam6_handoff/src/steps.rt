@@ -67,7 +67,7 @@ impl Play<Option<Place>, View> for Sitting {
     ghost then = { SitTells };
 }
 
-/// A desk takes the slot of its row for the first time.
+/// A desk takes the slot of its row, counted from 0, for the first time.
 pub(crate) fn sit(table: &SharedTable, token: &mut Token, row: usize)
     requires at { IsAt table.now.table_id table.now.key.users token.old.table_id row }
     requires unseated { token.old.me ≡ (Unseated row, []) }
@@ -77,7 +77,8 @@ pub(crate) fn sit(table: &SharedTable, token: &mut Token, row: usize)
     table.load::<Sitting>(token, row);
 }
 
-/// A desk puts the user's command into the slot, and sets the word so that it waits for a board.
+/// A desk puts the user's command into its slot, and sets the word so that it waits for a board.
+/// The desk has had its slot, and waits for nothing.
 pub(crate) fn put(table: &SharedTable, token: &mut Token, row: usize, queued: Queued)
     requires at { IsAt table.now.table_id table.now.key.users token.old.table_id row }
     requires rests { token.old.me ≡ (Rests row, (row, None) ∷ []) }
@@ -90,8 +91,8 @@ pub(crate) fn put(table: &SharedTable, token: &mut Token, row: usize, queued: Qu
     prove!(found == MINE);
 }
 
-/// A desk takes the finished command and the machine from the slot. Returns `None` if the command
-/// isn't finished.
+/// A desk that waits takes the finished command and the machine from its slot. Returns `None` and
+/// changes nothing if the command isn't finished.
 pub(crate) fn collect(table: &SharedTable, token: &mut Token, row: usize) -> Option<Finished>
     requires at { IsAt table.now.table_id table.now.key.users token.old.table_id row }
     requires waits { (asked : StoredQueued) × (token.old.me ≡ (Waits row asked, [])) }
@@ -113,8 +114,8 @@ pub(crate) fn collect(table: &SharedTable, token: &mut Token, row: usize) -> Opt
     }
 }
 
-/// A board takes the command from the slot of the user of this row. Returns `None` if no command
-/// waits there.
+/// A board that holds nothing takes the command from the slot of this row's user. Rows and boards
+/// are counted from 0. Returns `None` and changes nothing if no command waits there.
 pub(crate) fn take(table: &SharedTable, token: &mut Token, row: usize, board: u8) -> Option<Queued>
     requires at { IsAt table.now.table_id table.now.key.users token.old.table_id row }
     requires idle { token.old.me ≡ (Idle board, []) }
@@ -135,7 +136,8 @@ pub(crate) fn take(table: &SharedTable, token: &mut Token, row: usize, board: u8
     }
 }
 
-/// A board gives the command back to the slot of the user of this row, to wait for a board again.
+/// A board gives the command that it took back to the slot of this row's user. It waits for a board
+/// again.
 pub(crate) fn give_back(table: &SharedTable, token: &mut Token, row: usize, queued: Queued)
     requires at { IsAt table.now.table_id table.now.key.users token.old.table_id row }
     requires holds { (b : ℕ) × (q : StoredQueued)
@@ -151,7 +153,8 @@ pub(crate) fn give_back(table: &SharedTable, token: &mut Token, row: usize, queu
     table.swap::<GivingBack>(token, row, READY);
 }
 
-/// A board gives the finished command to the user of this row, and wakes the user's desk.
+/// A board gives the command that it took, which is finished, to the slot of this row's user. Wakes
+/// the user's desk.
 pub(crate) fn give_done(table: &SharedTable, token: &mut Token, row: usize, finished: Finished)
     requires at { IsAt table.now.table_id table.now.key.users token.old.table_id row }
     requires holds { (b : ℕ) × (q : StoredQueued)
