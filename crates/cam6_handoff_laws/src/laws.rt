@@ -6,43 +6,49 @@ ghost use Rattle.cam6_handoff_laws.specs.Laws.{CollectIsCollect, LookIsNoEvent, 
 ghost use Rattle.cam6_handoff_laws.specs.Threads.{ActionIsEvents, BeginsAtFresh, ExecutionIsEvents};
 ghost use Rattle.cam6_handoff_laws.specs.Threads.{DesksGiveTheReplies, CollectedIsGiven, TakenPlaceStands};
 
-/// If a row's word means where its user is, the status of the word is the user's status.
+/// If a row's word and slot are right for the stage of its user's command, the status that the word
+/// stands for is that of the stage.
 pub fn a_word_is_a_status()
     ensures law { WordIsStatus }
 {}
 
-/// The word of each row means where the row's user is, if the table keeps its rule.
+/// If the table keeps its rule, each row's word and slot are right for the stage of the row's user.
 pub fn a_row_is_said()
     ensures law { RowIsSaid }
 {}
 
-/// If a desk puts a command with bands, that is the event `ask`.
+/// If a desk puts a command with bands, that is the event `ask` of the core's model. Its outcome is
+/// the number of these bands.
 pub fn a_put_is_an_ask()
     ensures law { PutIsAsk }
 {}
 
-/// If a board's seat takes a command, that is the event `lease`.
+/// If the seat of an idle board takes a waiting command, that is the event `lease`. Its outcome is
+/// the number of bands that are left.
 pub fn a_take_is_a_lease()
     ensures law { TakeIsLease }
 {}
 
-/// If a seat puts a command back with the bands that are done, that is the event `preempt`.
+/// If a seat puts a command back as it was taken off its board, that is the event `preempt`. The
+/// bands that are done are kept, and the board is idle then.
 pub fn a_place_put_back_is_a_preempt()
     ensures law { BackIsPreempt }
 {}
 
-/// If a seat puts a command back from its image at home, that is the event `fail` of its board.
+/// If a seat puts a command back from its image at home, that is the event `fail` of its board,
+/// which is dead then.
 pub fn a_place_put_back_from_its_home_is_a_fail()
     ensures law { BackFromHomeIsFail }
 {}
 
-/// If a seat puts a command as done, that is the event `band` of its last band, which frees the
-/// board.
+/// If a seat puts a command as done, that is the event `band` of its last band. Its outcome is 0
+/// bands left, and the board is idle then.
 pub fn what_is_put_as_done_is_the_last_band()
     ensures law { DoneIsLastBand }
 {}
 
-/// If a desk collects a finished command, that is the event `collect`.
+/// If a desk collects a finished command, that is the event `collect`. The machine that the desk
+/// gets is then the user's private machine.
 pub fn a_collect_is_a_collect()
     ensures law { CollectIsCollect }
 {}
