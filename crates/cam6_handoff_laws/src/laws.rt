@@ -6,8 +6,8 @@ ghost use Rattle.cam6_handoff_laws.specs.Laws.{CollectIsCollect, LookIsNoEvent, 
 ghost use Rattle.cam6_handoff_laws.specs.Threads.{ActionIsEvents, BeginsAtFresh, ExecutionIsEvents};
 ghost use Rattle.cam6_handoff_laws.specs.Threads.{DesksGiveTheReplies, CollectedIsGiven, TakenPlaceStands};
 
-/// If a row's word and slot are right for the stage of its user's command, the status that the word
-/// stands for is that of the stage.
+/// If a row's word and slot are right for the stage of its user's command, the word stands for the
+/// status of this stage.
 pub fn a_word_is_a_status()
     ensures law { WordIsStatus }
 {}
