@@ -30,15 +30,16 @@ impl Round {
         }
     }
 
-    /// Begins a new round of looks at all users, at the user after the one whose command was taken
-    /// last.
+    /// Begins a new round of looks at all users. It starts at the user after the one whose command
+    /// was taken last, or at user 1.
     pub(crate) fn begin(&mut self)
         ensures { self.new ≡ record self.old { passed = 0 } }
     {
         self.passed = 0;
     }
 
-    /// Whether the round has passed over as many users as there are.
+    /// Whether the round has passed over as many users as there are, so that nobody is left to look
+    /// at.
     pub(crate) fn is_over(&self) -> bool
         ensures { IsTrue result ↔ (self.now.seat.users ≤ self.now.passed) }
     {
@@ -46,7 +47,8 @@ impl Round {
     }
 
     /// Takes the command of the next user of the round, if it waits and isn't held back, and
-    /// returns it. If not, passes over this user and returns `None`.
+    /// returns it. If not, passes over this user and returns `None`. The seat has to hold no
+    /// command, and the round not to be over.
     pub(crate) fn look(&mut self) -> Option<(User, Lease, Job)>
         requires idle { IsIdle self.old.seat }
         requires more { self.old.passed < self.old.seat.users }

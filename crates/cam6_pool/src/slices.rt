@@ -27,7 +27,8 @@ struct Slice {
     heard: u64,
 }
 
-/// Returns the time from one moment to another, or `None` if the clock failed at one of them.
+/// Returns the time from one moment to another, which is zero if that is earlier. Returns `None` if
+/// the clock failed at one of them.
 fn between(from: Option<Instant>, to: Option<Instant>) -> Option<Duration> {
     match (from, to) {
         (Some(from), Some(to)) => Some(to.saturating_duration_since(from)),
@@ -46,10 +47,10 @@ impl Slice {
         }
     }
 
-    /// Notes that the worker asks for a band of this user's command. Returns whether the command
-    /// has had its time, or the clock fails: true only at the first band of a step. Returns false
-    /// for another user than before. Their time began when the worker asked last, since the tables
-    /// were filled after that.
+    /// Notes that the worker asks for a band, counted from 0 in its step, of this user's command.
+    /// Returns whether the command has had its 2 milliseconds, or the clock fails: true only at the
+    /// first band of a step. Returns false for another user than before. Their time began when the
+    /// worker asked last, since the tables were filled after that.
     fn ask(&mut self, user: u8, band: u8, now: Option<Instant>) -> bool {
         let last = self.asked;
         self.asked = now;
@@ -88,7 +89,8 @@ pub struct SlicingGate<R> {
 }
 
 impl<R: Wait + Clock + Drop> SlicingGate<R> {
-    /// Makes a gate for so many boards of a table. Boards are numbered from 0.
+    /// Makes a gate for so many boards of a table. Boards are numbered from 0. Fails only if an
+    /// allocation fails.
     pub fn new(alloc: Global, rt: R, queue: Queue, boards: u8) -> Result<SlicingGate<R>, NoMemory> {
         let mut slices = Vec::with_capacity(alloc, usize::from(boards))?;
         for _ in 0..boards {
@@ -128,7 +130,7 @@ impl<R: Wait + Clock + Drop> SlicingGate<R> {
     }
 
     /// Sleeps until the number of rings differs from `heard`, for 100 milliseconds at most. Returns
-    /// the number of rings.
+    /// the number of rings so far.
     fn sleep_until_rung(&self, heard: u64) -> u64 {
         let poll = Duration::from_millis(POLL);
         let bell = self.bell.lock(&self.rt);
@@ -141,8 +143,9 @@ impl<R: Wait + Clock + Drop> SlicingGate<R> {
 
 impl<R: Wait + Clock + Drop> Gate for SlicingGate<R> {
     /// Returns the gate's verdict before a band. It is `Stop` once `stop` was called. It is
-    /// `Preempt` for a command that has had its time, if another command waits that isn't held
-    /// back. Else it is `Go`. Rings at a command's first band if another one waits.
+    /// `Preempt` for a command that has had its 2 milliseconds, if another command waits that isn't
+    /// held back. Else, and if there is no such board, it is `Go`. Rings at a command's first band
+    /// if another one waits.
     fn turn(&self, board: u8, user: u8, band: u8) -> Turn {
         if self.stopping.load(Ordering::SeqCst) {
             return Turn::Stop;

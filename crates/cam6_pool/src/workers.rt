@@ -28,13 +28,15 @@ pub enum Ended {
     Dead,
 }
 
-/// Returns the number of the band that the board does next in its step, counted from 0.
+/// Returns the number of the band that the board does next in its step, counted from 0. It is 0 if
+/// the board holds no command.
 fn next_band<B: Board>(station: &Station<B>) -> u8 {
     let rows = station.rows().unwrap_or(0);
     u8::try_from(rows / BAND as u16).unwrap_or(u8::MAX)
 }
 
-/// Takes the command off the board, and gives it back to wait for a board again.
+/// Takes the command off the board, which has to hold the seat's one. Gives it back to wait for a
+/// board again: from its image at home if the board fails.
 fn preempt<B: Board>(seat: &mut BoardSeat, station: &mut Station<B>)
     requires loaded { IsLoaded station.old.at }
     requires serves { Serves seat.old.holds station.old.at }
@@ -47,9 +49,9 @@ fn preempt<B: Board>(seat: &mut BoardSeat, station: &mut Station<B>)
     }
 }
 
-/// Asks the gate for its verdict, and follows it: does a band, or takes the command off the board.
-/// Gives a finished command to its desk. Gives a command whose image was lost back to wait. Returns
-/// whether the gate stops the worker.
+/// Asks the gate for its verdict, and follows it: does a band, or takes the command off the board,
+/// which has to hold one. Gives a finished command to its desk. Gives a command whose image was
+/// lost back to wait. Returns true if the verdict is `Stop`.
 fn follow_gate<B: Board, G: Gate>(
     seat: &mut BoardSeat,
     station: &mut Station<B>,
@@ -81,8 +83,9 @@ fn follow_gate<B: Board, G: Gate>(
     }
 }
 
-/// Does bands of a lease until the command is finished or given back. The seat has filled its
-/// tables. Returns whether the gate stopped the worker.
+/// Loads an idle station with the lease that the seat took, whose tables the seat has filled. Does
+/// its bands until the command is finished or given back. Returns whether the gate stopped the
+/// worker. If not, the board may have failed.
 fn serve_lease<B: Board, G: Gate>(
     seat: &mut BoardSeat,
     station: &mut Station<B>,
@@ -109,7 +112,7 @@ fn serve_lease<B: Board, G: Gate>(
     stops
 }
 
-/// Gives a command back that was taken and not begun. It waits for a board again.
+/// Gives the command back that the seat took and no board began. It waits for a board again.
 fn give_back(seat: &mut BoardSeat, lease: Lease, job: Job)
     requires seat { Carries seat.old.holds lease job }
     ensures seat { seat.new ≡ emptied seat.old }
@@ -120,7 +123,7 @@ fn give_back(seat: &mut BoardSeat, lease: Lease, job: Job)
 
 /// Takes the command of the first user in turn who has one that waits and isn't held back. Goes
 /// once round all users, from the user after the one whose command it took last. Returns `None` if
-/// there is none.
+/// there is none. The seat has to hold no command.
 fn take_next(round: &mut Round) -> Option<(User, Lease, Job)>
     requires { IsIdle round.old.seat }
     ensures { TakesNext round.old result round.new }
@@ -134,11 +137,12 @@ fn take_next(round: &mut Round) -> Option<(User, Lease, Job)>
     None
 }
 
-/// Serves users with a board until the gate ends it, or the board fails. Users come round robin:
-/// each round of looks begins at the user after the one whose command was taken last. Each table is
-/// filled under the cache's lock, and no lock is held while bands are done. A lease that it has at
-/// its end is put back first: with its half-done step if the gate stopped it, from its home if the
-/// board failed. The seat can serve again, with this board or another one.
+/// Serves users with an empty board until the gate ends it, or the board fails, and returns which.
+/// Users come round robin: each round of looks begins at the user after the one whose command was
+/// taken last. Each table is filled under the cache's lock, and no lock is held while bands are
+/// done. A lease that it has at its end is put back first. It waits with its half-done step if the
+/// gate stopped it, or from its home if the board failed. The seat, which holds no command, can
+/// serve again with any empty board.
 pub fn serve_board<R: Wait, B: Board, G: Gate>(
     rt: &R,
     seat: BoardSeat,
