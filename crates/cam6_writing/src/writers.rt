@@ -8,7 +8,8 @@ use std::io::Write;
 pub struct WriteFault;
 
 /// Writes a line, which has to end with an LF already, and flushes. It is one write if the writer
-/// takes the line whole.
+/// takes the line whole. Fails if a write or the flush fails, or a write takes no byte. Then a
+/// prefix of the line may be written.
 pub fn send<W: Write>(writer: &mut W, line: &[u8]) -> Result<(), WriteFault>
     ensures { WritesFront result (W.contents writer.old) (W.contents writer.new) line.now }
 {
@@ -19,8 +20,8 @@ pub fn send<W: Write>(writer: &mut W, line: &[u8]) -> Result<(), WriteFault>
     }
 }
 
-/// Writes all of the bytes, in as many writes as the writer needs. A write that takes no byte is a
-/// fault.
+/// Writes all of the bytes, in as many writes as the writer needs. Doesn't flush. Fails if a write
+/// fails or takes no byte. Then a prefix of the bytes may be written.
 pub fn write_bytes<W: Write>(writer: &mut W, bytes: &[u8]) -> Result<(), WriteFault>
     ensures { WritesFront result (W.contents writer.old) (W.contents writer.new) bytes.now }
 {
