@@ -2,8 +2,8 @@
 //! that does nothing.
 ghost use Rattle.cam6_pool.specs.Laws.{UsersAreServedInRounds};
 
-/// In a list of takes in turn, if no round takes a certain user's command or passes over this user,
-/// there are fewer takes than users.
+/// In takes in turn that neither take a certain user's command nor pass over this user, there are
+/// fewer takes than users.
 pub fn users_are_served_in_rounds()
     ensures law { UsersAreServedInRounds }
 {}
