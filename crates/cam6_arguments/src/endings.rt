@@ -10,8 +10,8 @@ use crate::statuses::WRITE_FAILED;
 use std::env::Env;
 use std::process::ExitCode;
 
-/// Reads the program's arguments, of which the first is its name. If they can't be read, returns
-/// the refusal.
+/// Reads the program's arguments, of which the first is its name. Returns the refusal if an
+/// argument isn't UTF-8, or if an allocation fails.
 pub fn read_arguments<R: Env + AllocGlobal>(
     rt: &R,
     program: Program,
@@ -28,8 +28,9 @@ pub fn read_arguments<R: Env + AllocGlobal>(
     }
 }
 
-/// Prints help to standard output, or the refusal of the arguments to standard error. Returns the
-/// exit status.
+/// Prints help or the version to standard output, or the refusal of the arguments to standard
+/// error. Returns the exit status: 0 for help, 2 for refused arguments, 5 for a failed allocation.
+/// It is 4 if help can't be written, which is then reported.
 pub fn refuse(rt: &(impl Print + Eprint), program: Program, refused: &Refused) -> ExitCode
     ensures refused { (refusal program refused.now).0 ≢ 0
         → exit_status result ≡ (refusal program refused.now).0 }
@@ -47,7 +48,8 @@ pub fn refuse(rt: &(impl Print + Eprint), program: Program, refused: &Refused) -
     }
 }
 
-/// Prints a text to standard error, and returns this exit status.
+/// Prints a text to standard error, and returns this exit status. The text has its LF. A failure to
+/// print it isn't reported.
 pub fn report_failure(rt: &impl Eprint, status: u8, text: &str) -> ExitCode
     ensures { exit_status result ≡ status }
 {

@@ -16,8 +16,8 @@ use std::alloc::Global;
 /// The last port.
 pub const MAX_PORT: u64 = 65_535;
 
-/// Makes a program's command, with its version and without options. Help begins with `about` and
-/// ends with `after_help`.
+/// Makes a program's command for clap, with its name and version, and without options. Help begins
+/// with `about` and ends with `after_help`.
 pub fn new_command<'a>(
     alloc: Global,
     program: Program,
@@ -33,8 +33,8 @@ pub fn new_command<'a>(
         .version(VERSION)
 }
 
-/// Makes an option of this name whose value is a number from `least` to `most`, and `default` if
-/// there is none.
+/// Makes the option `--name` whose value is a number from `least` to `most`, both included. The
+/// value is `default` if the option isn't given.
 pub fn number_option<'a>(
     alloc: Global,
     name: &'a str,
@@ -51,7 +51,8 @@ pub fn number_option<'a>(
         .default_value(default)
 }
 
-/// Makes the option `--side`, whose value is one of the three sides, and 256 by default.
+/// Makes the option `--side`, whose value is one of the three sides, and 256 by default. `help` is
+/// the option's line in the help text.
 pub fn side_option<'a>(alloc: Global, help: &'a str) -> Arg<'a>
     ensures rule { (sides : TextsAt) × AreSides sides × (rule_of result ≡ option_of_sides sides) }
     ensures global { result.global ≡ false }
@@ -63,7 +64,8 @@ pub fn side_option<'a>(alloc: Global, help: &'a str) -> Arg<'a>
         .help(help)
 }
 
-/// Makes an option of this name that takes any value, which help calls `value`.
+/// Makes the option `--name` that takes any value and has no default. In the help text its value is
+/// called `value`, and `help` is its line.
 pub fn value_option<'a>(alloc: Global, name: &'a str, value: &'a str, help: &'a str) -> Arg<'a>
     ensures rule { rule_of result ≡ option_of_values name.now }
     ensures global { result.global ≡ false }

@@ -67,7 +67,8 @@ impl Program {
     }
 }
 
-/// Returns the program's name, a colon, a space and the text, as a new string.
+/// Returns the program's name, a colon, a space and the text, as a new string. Fails only if the
+/// allocation fails.
 pub fn message_of(alloc: Global, program: Program, text: &str) -> Result<String, AllocError>
     ensures { IfOk result (λ line. string_bytes line ≡ message_of program text.now) }
 {

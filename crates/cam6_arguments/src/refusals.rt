@@ -25,8 +25,9 @@ pub enum Refused {
     NoMemory,
 }
 
-/// Returns the exit status of refused arguments, and the text to print: help on standard output,
-/// anything else on standard error.
+/// Returns the exit status of refused arguments, and the text to print. Help or the version has
+/// status 0, for standard output. Refused arguments have 2 and a failed allocation 5, for standard
+/// error.
 pub fn refusal_of(program: Program, refused: &Refused) -> (u8, &str)
     ensures { (result.0, result.1.now) ≡ refusal_told program refused.now }
 {
@@ -37,8 +38,9 @@ pub fn refusal_of(program: Program, refused: &Refused) -> (u8, &str)
     }
 }
 
-/// Returns the refusal for an error of clap's: help, refused arguments, or that an allocation
-/// failed. The hint stands after the text of refused arguments.
+/// Returns the refusal for an error of clap's: help or the version, refused arguments, or
+/// `NoMemory`. It is `NoMemory` if clap's, the text's or the hint's allocation failed. The hint
+/// stands after the text of refused arguments.
 pub fn refusal(alloc: Global, error: clap::Error, hint: &str) -> Refused
     ensures kind { IsOfKind result (kind_of error) }
     ensures hint { EndsWith result hint.now }
@@ -48,7 +50,8 @@ pub fn refusal(alloc: Global, error: clap::Error, hint: &str) -> Refused
 }
 
 /// Returns the refusal for an error of clap's of this kind. `text` is its text, or an error if that
-/// couldn't be allocated. The hint stands after the text of refused arguments.
+/// couldn't be allocated: then returns `NoMemory`. The hint stands after the text of refused
+/// arguments. If it can't be allocated, returns `NoMemory` too.
 pub fn refusal_of_kind(kind: ErrorKind, text: Result<String, AllocError>, hint: &str) -> Refused
     ensures kind { IsOfKind result kind }
     ensures text { IfOk text (λ text. HasText result (string_bytes text) hint.now) }
@@ -80,8 +83,8 @@ fn with_hint(text: String, hint: &str) -> Refused
 }
 
 /// Returns the refusal with this text, for arguments that clap takes: they ask for nothing, or a
-/// word isn't UTF-8. `text` is a whole line with the program's name and LF, or an error if that
-/// couldn't be allocated.
+/// word isn't UTF-8. `text` is a whole line with the program's name and LF. If it is an error,
+/// since it couldn't be allocated, returns `NoMemory`.
 pub fn refusal_of_text(text: Result<String, AllocError>) -> Refused
     ensures refusal { IsRefusal result }
     ensures text { MatchResult text (λ text. result ≡ Refused.Words text)
@@ -93,8 +96,9 @@ pub fn refusal_of_text(text: Result<String, AllocError>) -> Refused
     }
 }
 
-/// Returns the refusal of arguments that could not be read: an allocation failed, or else a word
-/// isn't UTF-8.
+/// Returns the refusal of arguments that could not be read with an error of this kind.
+/// `OutOfMemory` gives `NoMemory`, and any other kind reports that a word isn't UTF-8. Returns
+/// `NoMemory` also if that report can't be allocated.
 pub fn refusal_of_read(alloc: Global, program: Program, kind: io::ErrorKind) -> Refused
     ensures { IsUnreadable program result kind }
 {
