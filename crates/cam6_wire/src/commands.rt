@@ -25,7 +25,9 @@ use cam6_commands::{Command, NamedRule, Text};
 use serde_json::{Category, Value};
 use std::alloc::{AllocError, Global};
 
-/// Returns the command that a line is read as, or the line's fault.
+/// Returns the command that a line, without its LF, is read as. Else returns the line's fault, or
+/// `NoMemory` if an allocation fails. Doesn't check that planes, rows and other numbers are in
+/// range.
 pub fn read_command(alloc: Global, line: &[u8]) -> Result<Command, LineFault>
     ensures said { IsSaid result (command line.now) }
     // An empty line and one that is too long take no memory.
@@ -44,8 +46,9 @@ pub fn read_command(alloc: Global, line: &[u8]) -> Result<Command, LineFault>
     Ok(command)
 }
 
-/// Whether a line that is read as this command has an allowed spelling. A load has one spelling in
-/// each version, and any other command has many.
+/// Whether a line that is read as this command has an allowed spelling. A load must be spelled as
+/// one of the two versions has it. Any other command may have any spelling. Fails only if an
+/// allocation fails.
 fn is_spelled(alloc: Global, line: &[u8], command: &Command) -> Result<bool, AllocError>
     ensures { IfOk result (λ is. is ≡ is_spelled line.now command.now) }
 {
@@ -56,7 +59,7 @@ fn is_spelled(alloc: Global, line: &[u8], command: &Command) -> Result<bool, All
 }
 
 /// Returns the JSON value that a line is. Returns a fault if the line is too long, or is no JSON
-/// value.
+/// value, or if an allocation fails.
 pub(crate) fn line_value(alloc: Global, line: &[u8]) -> Result<Value, LineFault>
     ensures value { IfOk result (λ value. (length line.now ≤ limit_of line.now)
         × (value_of line.now ≡ Some (view value))) }
@@ -77,8 +80,8 @@ pub(crate) fn line_value(alloc: Global, line: &[u8]) -> Result<Value, LineFault>
     }
 }
 
-/// Returns the command that a JSON value stands for, a load or any other. Returns `None` if `do`
-/// has no command's word, or if the value's other members are not those of the word.
+/// Returns the command that a JSON value stands for, a load or any other. Returns `None` if it is
+/// no object whose `do` is a command's word, or if its other members are not those of the word.
 fn command_in(alloc: Global, value: &Value) -> Result<Option<Command>, AllocError>
     ensures { IfOk result (λ command. command ≡ command_in (view value.now)) }
 {
@@ -91,8 +94,8 @@ fn command_in(alloc: Global, value: &Value) -> Result<Option<Command>, AllocErro
     command_by_word(alloc, word, value)
 }
 
-/// Returns the load of an object of `do` and `machine`. Returns `None` if there is another member,
-/// or `machine` is no saved machine.
+/// Returns the load of an object of `do` and `machine`, whose `do` is `load`. Returns `None` if
+/// `machine` is missing or no saved machine, or if there is another member.
 #[tactic(auto, unfolding(crate::specs::Commands::load_of))]
 fn load_of(alloc: Global, value: &Value) -> Result<Option<Command>, AllocError>
     ensures { IfOk result (λ command. command ≡ load_of (view value.now)) }
@@ -123,8 +126,9 @@ pub fn command_shown(alloc: Global, value: &Value) -> Result<Option<Command>, Al
     }
 }
 
-/// Returns the command of this word, from an object's other members. Returns `None` if the word is
-/// `load` or no command's, or if the other members are not those of the word.
+/// Returns the command of this word, which is the value's `do`, from the object's other members.
+/// Returns `None` if the word is `load` or no command's, or if the other members are not those of
+/// the word.
 fn command_by_word(alloc: Global, word: &str, value: &Value) -> Result<Option<Command>, AllocError>
     ensures command { IfOk result (λ command. command ≡ by_word word.now (view value.now)) }
     ensures memory { option_map_or keeps_text (by_word word.now (view value.now)) false ≡ false
@@ -139,9 +143,9 @@ fn command_by_word(alloc: Global, word: &str, value: &Value) -> Result<Option<Co
     }
 }
 
-/// Returns the command of a word that isn't `rule`, `drop`, `cycle` or `load`, so that there is no
-/// text to copy. Returns `None` if there is no such word, or if the other members are not those of
-/// the word.
+/// Returns the command of a word, which must not be `rule`, `drop` or `cycle`: they have texts to
+/// copy. Returns `None` for `load` or an unknown word, or if the other members are not those of the
+/// word.
 #[tactic(auto, unfolding(crate::specs::Commands::clear_of, crate::specs::Commands::run_of, crate::specs::Commands::back_of, crate::specs::Commands::plane_of, crate::specs::Commands::side_of, crate::specs::Commands::colours_of, crate::specs::Commands::count_of))]
 fn command_without_text(word: &str, value: &Value) -> Option<Command>
     requires no_rule { bytes_eq word.now (codes "rule") ≡ false }
@@ -181,8 +185,8 @@ fn set_of(value: &Value) -> Option<Command>
     Some(Command::Set { plane, row, bits })
 }
 
-/// Returns the number at a key of an object that has two keys. Returns `None` if it has no number
-/// there, or not two keys.
+/// Returns the whole number at a key of an object of two members. Returns `None` if there is no
+/// whole number below 2 to the power of 64, or if the value has not two members.
 #[tactic(auto, unfolding(crate::specs::Commands::sole_number))]
 pub(crate) fn sole_number(value: &Value, key: &str) -> Option<u64>
     ensures { result ≡ sole_number key.now (view value.now) }
@@ -213,7 +217,7 @@ fn rule_of(alloc: Global, value: &Value) -> Result<Option<Command>, AllocError>
 }
 
 /// Returns the command `drop` of an object of `do` and `name`, with a copy of the name. Returns
-/// `None` if `name` is no text, or there is another member.
+/// `None` if `name` is missing or no text, or there is another member.
 #[tactic(auto, unfolding(crate::specs::Commands::drop_of))]
 fn drop_of(alloc: Global, value: &Value) -> Result<Option<Command>, AllocError>
     ensures command { IfOk result (λ command. command ≡ drop_of (view value.now)) }
@@ -232,8 +236,8 @@ fn drop_of(alloc: Global, value: &Value) -> Result<Option<Command>, AllocError>
     }))
 }
 
-/// Returns the command that lists the rules, of an object of `do` alone. Returns `None` if there is
-/// another member.
+/// Returns the command `rules`, which lists the rules, of an object of `do` alone. Returns `None`
+/// if there is another member.
 #[tactic(auto, unfolding(crate::specs::Commands::listing_of))]
 fn listing_of(value: &Value) -> Option<Command>
     ensures { result ≡ listing_of (view value.now) }
@@ -245,7 +249,7 @@ fn listing_of(value: &Value) -> Option<Command>
 }
 
 /// Returns the command `cycle` of an object of `do` and `entries`. Returns `None` if `entries` is
-/// no list of entries, or there is another member.
+/// missing or no list of entries, or there is another member.
 #[tactic(auto, unfolding(crate::specs::Commands::cycle_of))]
 fn cycle_of(alloc: Global, value: &Value) -> Result<Option<Command>, AllocError>
     ensures command { IfOk result (λ command. command ≡ cycle_of (view value.now)) }
@@ -276,8 +280,8 @@ fn row_of(value: &Value) -> Option<Command>
     Some(Command::Row { plane, row })
 }
 
-/// Returns the command that sets the colours, of an object of `do` and `colours`. Returns `None` if
-/// `colours` has not sixteen numbers, or there is another member.
+/// Returns the command `map`, which sets the colours, of an object of `do` and `colours`. Returns
+/// `None` if `colours` is no list of sixteen whole numbers, or there is another member.
 #[tactic(auto, unfolding(crate::specs::Commands::map_of))]
 fn map_of(value: &Value) -> Option<Command>
     ensures { result ≡ map_of (view value.now) }

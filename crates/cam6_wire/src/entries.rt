@@ -12,8 +12,8 @@ use serde_json::Value;
 use std::alloc::{AllocError, Global};
 use std::marker::Model;
 
-/// Returns the entries of the list at a key. Returns `None` if there is no list, or if one of its
-/// values is no entry.
+/// Returns the cycle entries of the list at a key. Returns `None` if there is no list, or if one of
+/// its values is no entry. Fails only if an allocation fails.
 pub(crate) fn entries_at(
     alloc: Global,
     value: &Value,
@@ -30,8 +30,8 @@ pub(crate) fn entries_at(
     }
 }
 
-/// Returns the entries that values stand for, or `None` if one of them is no entry. Looks at all of
-/// them before it allocates.
+/// Returns the cycle entries that values stand for, or `None` if one of them is no entry. Looks at
+/// all of them before it allocates.
 fn entries_in(alloc: Global, values: &[Value]) -> Result<Option<NamedEntries>, AllocError>
     ensures entries { IfOk result (λ entries. entries ≡ entries_in (items_view values.now)) }
     ensures memory { option_map_or are_some (entries_in (items_view values.now)) false ≡ false
@@ -50,7 +50,7 @@ fn entries_in(alloc: Global, values: &[Value]) -> Result<Option<NamedEntries>, A
     Ok(Some(NamedEntries::new(entries)))
 }
 
-/// Whether each value stands for an entry.
+/// Whether each value stands for a cycle entry.
 fn are_entries(values: &[Value]) -> bool
     ensures { result ≡ is_some (entries_in (items_view values.now)) }
 {
@@ -86,7 +86,7 @@ impl<'a> Model for BorrowedEntry<'a> {
 }
 
 impl<'a> BorrowedEntry<'a> {
-    /// Returns the entry with copies of its names.
+    /// Returns the entry with copies of its names. A name `-` becomes `None`.
     fn copied(&self, alloc: Global) -> Result<NamedEntry, AllocError>
         ensures { IfOk result (λ entry. entry ≡ self.now) }
     {
@@ -99,8 +99,8 @@ impl<'a> BorrowedEntry<'a> {
     }
 }
 
-/// Returns the entry that a value stands for, with names borrowed from it. Returns `None` if it is
-/// no entry. Does not allocate.
+/// Returns the cycle entry that a value stands for, with names borrowed from it. Returns `None` if
+/// it is no object of `a`, `b`, `grid` and `phase`, or one of them is wrong. Does not allocate.
 #[tactic(auto, unfolding(crate::specs::Entries::entry_in))]
 fn entry_in(value: &Value) -> Option<BorrowedEntry<'_>>
     ensures { result ≡ entry_in (view value.now) }

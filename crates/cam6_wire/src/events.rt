@@ -17,8 +17,8 @@ use cam6_commands::Event;
 use serde_json::Value;
 use std::alloc::{AllocError, Global};
 
-/// Returns the event that a line is read as, or the line's fault. Does not check that its user and
-/// board exist.
+/// Returns the event that a line, without its LF, is read as. Else returns the line's fault, or
+/// `NoMemory` if an allocation fails. Does not check that its user and board exist.
 pub fn read_event(alloc: Global, line: &[u8]) -> Result<Event, LineFault>
     ensures said { IsSaid result (event line.now) }
     // An empty line and one that is too long take no memory.
@@ -32,8 +32,8 @@ pub fn read_event(alloc: Global, line: &[u8]) -> Result<Event, LineFault>
     event_shown(alloc, &value)?.ok_or(LineFault::NoCommand)
 }
 
-/// Returns the board of a band, if the line is spelled plainly with one digit, as most lines of a
-/// replay are. It is read without a JSON value. Returns `None` for any other line.
+/// Returns the board of a band, if the line is `{"event":"band","board":`, one digit and `}`, as
+/// most lines of a replay are. It is read without a JSON value. Returns `None` for any other line.
 fn plain_band(line: &[u8]) -> Option<u64>
     ensures { IfSome result (λ board. event line.now ≡ Ok (Event.Band board)) }
 {
@@ -48,7 +48,8 @@ fn plain_band(line: &[u8]) -> Option<u64>
     Some(u64::from(digit - b'0'))
 }
 
-/// Returns the event that a JSON value stands for, or `None` if it stands for none.
+/// Returns the event that a JSON value stands for. Returns `None` if it is no object whose `event`
+/// is a kind, or if its other members are not those of the kind.
 pub fn event_shown(alloc: Global, value: &Value) -> Result<Option<Event>, AllocError>
     ensures event { IfOk result (λ event. event ≡ event_in (view value.now)) }
     // Only a rule, a name and entries of an ask take memory, after all of them were looked at.
@@ -60,8 +61,8 @@ pub fn event_shown(alloc: Global, value: &Value) -> Result<Option<Event>, AllocE
     event_by_word(alloc, kind, value)
 }
 
-/// Returns the event of this kind, from an object's other members. Returns `None` if there is no
-/// such kind, or if the other members are not those of the kind.
+/// Returns the event of this kind, which is the value's `event`, from the object's other members.
+/// Returns `None` if there is no such kind, or if the other members are not those of the kind.
 fn event_by_word(alloc: Global, kind: &str, value: &Value) -> Result<Option<Event>, AllocError>
     ensures event { IfOk result (λ event. event ≡ event_by_word kind.now (view value.now)) }
     ensures memory { option_map_or keeps_text_of (event_by_word kind.now (view value.now)) false
@@ -73,8 +74,8 @@ fn event_by_word(alloc: Global, kind: &str, value: &Value) -> Result<Option<Even
     }
 }
 
-/// Returns the event of a kind other than `ask`, which has no text to copy. Returns `None` if there
-/// is no such kind, or if the other members are not those of the kind.
+/// Returns the event of a kind, which must not be `ask`. Returns `None` if there is no such kind,
+/// or if the other members are not those of the kind.
 #[tactic(auto, unfolding(crate::specs::Events::band_of, crate::specs::Events::preempt_of, crate::specs::Events::fail_of, crate::specs::Events::repair_of, crate::specs::Events::collect_of))]
 fn event_without_command(kind: &str, value: &Value) -> Option<Event>
     requires no_ask { bytes_eq kind.now (codes "ask") ≡ false }

@@ -20,7 +20,8 @@ pub enum LineFault {
 }
 
 impl LineFault {
-    /// Returns the fault's number in replies, or 0 for a failed allocation, which has no reply.
+    /// Returns the fault's number in replies, from 1 to 4. It is 0 for a failed allocation, which
+    /// has no reply.
     pub fn number(self) -> u8
         ensures { result ≡ fault_number self }
     {

@@ -7,7 +7,7 @@ ghost use Rattle.cam6_wire.specs.Fields.{numbers_of, of_states, colours_at};
 use cam6_planes::{Bits, bits_of_digits};
 use serde_json::Value;
 
-/// Whether a value is an object of `size` members.
+/// Whether a value is an object of exactly `size` members.
 pub(crate) fn has_size(value: &Value, size: usize) -> bool
     ensures { result ≡ has_size size (view value.now) }
 {
@@ -55,8 +55,8 @@ pub(crate) fn text_at<'a>(value: &'a Value, key: &str) -> Option<&'a str>
     value.get(key).and_then(Value::as_str)
 }
 
-/// Returns the bits of a plane's row at a key, read from hexadecimal digits of either case. Returns
-/// `None` unless there are as many digits as a row of one of the sides has.
+/// Returns the bits of a plane's row at a key, read from a text of hexadecimal digits of either
+/// case. Returns `None` unless there are as many digits as a row of one of the sides has.
 pub(crate) fn bits_at(value: &Value, key: &str) -> Option<Bits>
     ensures { result ≡ bits_at key.now (view value.now) }
 {

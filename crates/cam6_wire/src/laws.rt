@@ -57,7 +57,7 @@ pub fn an_asked_rules_text_is_utf8()
     ensures law { AskedTextIsUtf8 }
 {}
 
-/// A line within its limit is read as the seat of the user whom its JSON value `{"seat":N}` shows.
+/// A line within its limit whose JSON value is `{"seat":N}` is read as the seat of user N.
 pub fn a_shown_seat_is_said()
     ensures law { ShownSeatIsSaid }
 {}

@@ -11,8 +11,8 @@ pub const LOAD_LINE_LIMIT: usize = 2_097_152;
 /// The bytes with which a load begins.
 const LOAD_HEAD: [u8; 13] = *b"{\"do\":\"load\",";
 
-/// Returns the most bytes that a line may have. A line that begins as a load does may have more
-/// than any other.
+/// Returns the most bytes that a line may have, without its LF: 2,097,152 if it begins as a load
+/// does, and else 16,384.
 pub fn line_limit(line: &[u8]) -> usize
     ensures { result ≡ limit_of line.now }
 {
@@ -23,7 +23,7 @@ pub fn line_limit(line: &[u8]) -> usize
     }
 }
 
-/// Whether a line begins as a load does.
+/// Whether a line begins as a load does: with `{"do":"load",`.
 #[tactic(auto, unfolding(crate::specs::Limits::begins_load))]
 fn begins_load(line: &[u8]) -> bool
     ensures { result ≡ begins_load line.now }
@@ -31,7 +31,7 @@ fn begins_load(line: &[u8]) -> bool
     line.starts_with(&LOAD_HEAD)
 }
 
-/// Whether the line that is `front` and then `part` begins as a load does.
+/// Whether the line that is `front` and then `part` begins as a load does: with `{"do":"load",`.
 pub fn begins_load_in(front: &[u8], part: &[u8]) -> bool
     ensures { result ≡ begins_load (front.now ++ part.now) }
 {

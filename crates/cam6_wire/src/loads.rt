@@ -29,7 +29,8 @@ pub(crate) fn saved_in(alloc: Global, value: &Value) -> Result<Option<SavedMachi
     saved_fields(alloc, side, value)
 }
 
-/// Returns the version of a value of a saved machine, or `None` if it has none that is known.
+/// Returns the version of a saved machine's value, `First` for 1 and `Second` for 2. Returns `None`
+/// if `version` is anything else or missing.
 fn version_in(value: &Value) -> Option<Version>
     ensures { result ≡ version_in (view value.now) }
 {
@@ -40,8 +41,9 @@ fn version_in(value: &Value) -> Option<Version>
     }
 }
 
-/// Returns the side of a saved machine, which is 256 in the first version. Returns `None` if the
-/// number of keys isn't that of the version, or if the second version has no side.
+/// Returns the number at `side` of a saved machine in the second version, or 256 in the first
+/// version. Returns `None` if the number of members isn't the version's, 6 or 7, or the second
+/// version has no number at `side`.
 fn side_in(version: Version, value: &Value) -> Option<u64>
     ensures { result ≡ side_in version (view value.now) }
 {
@@ -57,8 +59,8 @@ fn side_in(version: Version, value: &Value) -> Option<u64>
     }
 }
 
-/// Returns the saved machine of this side that an object's other members have. Returns `None` if
-/// one of them is missing or wrong.
+/// Returns the saved machine of this side that an object's members `colours`, `cycle`, `planes`,
+/// `position` and `rules` have. Returns `None` if one of them is missing or wrong.
 fn saved_fields(alloc: Global, side: u64, value: &Value) -> Result<Option<SavedMachine>, AllocError>
     ensures { IfOk result (λ saved. saved ≡ saved_fields side (view value.now)) }
 {
@@ -97,7 +99,7 @@ fn planes_at(alloc: Global, value: &Value, key: &str) -> Result<Option<[BitRows;
     }
 }
 
-/// Returns the planes of a list of four planes, or `None` for any other list.
+/// Returns the planes of a list of exactly four planes, or `None` for any other list.
 fn four_planes(alloc: Global, values: &[Value]) -> Result<Option<[BitRows; 4]>, AllocError>
     ensures { IfOk result (λ planes.
         planes ≡ option_and_then of_four (planes_of (items_view values.now))) }
@@ -120,7 +122,8 @@ fn four_planes(alloc: Global, values: &[Value]) -> Result<Option<[BitRows; 4]>, 
     Ok(Some([first, second, third, fourth]))
 }
 
-/// Returns the rows of a plane, or `None` if the value is no list of rows.
+/// Returns the rows of a plane, or `None` if the value is no list of rows. Doesn't check how many
+/// they are.
 fn rows_in(alloc: Global, value: &Value) -> Result<Option<BitRows>, AllocError>
     ensures { IfOk result (λ rows. rows ≡ rows_in (view value.now)) }
 {
@@ -130,7 +133,8 @@ fn rows_in(alloc: Global, value: &Value) -> Result<Option<BitRows>, AllocError>
     }
 }
 
-/// Returns the rows of a list of hexadecimal digits, or `None` if one is not a row of any side.
+/// Returns the rows of a list of texts of hexadecimal digits, or `None` if one is not a row of any
+/// side. Doesn't check how many they are, or that they have one side.
 fn rows_of(alloc: Global, values: &[Value]) -> Result<Option<BitRows>, AllocError>
     ensures { IfOk result (λ rows. rows ≡ rows_of (items_view values.now)) }
 {
@@ -144,8 +148,8 @@ fn rows_of(alloc: Global, values: &[Value]) -> Result<Option<BitRows>, AllocErro
     Ok(Some(BitRows::new(rows)))
 }
 
-/// Returns the bits that a row's hexadecimal digits stand for, or `None` if the value is not a row
-/// of any side.
+/// Returns the bits that a row's text of hexadecimal digits stands for. Returns `None` if the value
+/// is not a row of any side.
 fn bits_in(value: &Value) -> Option<Bits>
     ensures { result ≡ bits_in (view value.now) }
 {

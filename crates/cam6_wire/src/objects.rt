@@ -6,7 +6,8 @@ ghost use Rattle.serde_json.specs.View.{view, members_view};
 use serde_json::{Map, Value, put};
 use std::alloc::{AllocError, Global};
 
-/// Adds a member to an object's members, and returns them all.
+/// Adds a member to an object's members, and returns them all. If the key is there, its value is
+/// replaced.
 pub(crate) fn with_member(
     alloc: Global,
     members: Map<String, Value>,
@@ -21,7 +22,8 @@ pub(crate) fn with_member(
     Ok(more)
 }
 
-/// Adds a member whose value is a text to an object's members, and returns them all.
+/// Adds a member whose value is a copy of a text to an object's members, and returns them all. If
+/// the key is there, its value is replaced.
 pub(crate) fn with_text(
     alloc: Global,
     members: Map<String, Value>,

@@ -13,7 +13,7 @@ use serde_json::{Value, json};
 use std::alloc::{AllocError, Global};
 
 /// Returns the line that reports an event's outcome, without its LF. If an allocation failed for
-/// the event, the line has the number 0.
+/// the event, the line is a refusal with the number 0.
 pub fn outcome_text(alloc: Global, outcome: &Outcome) -> Result<String, NoMemory>
     ensures text { IfOk result (λ text. string_bytes text ≡ outcome_bytes outcome.now) }
     ensures value { IfOk result (λ text.
@@ -26,8 +26,8 @@ pub fn outcome_text(alloc: Global, outcome: &Outcome) -> Result<String, NoMemory
     }
 }
 
-/// Returns the line of an event that was refused or ran out of memory, with its LF. Returns `None`
-/// for an event that was done. Does not allocate.
+/// Returns the line of an event that was refused, or ran out of memory (number 0), with its LF.
+/// Returns `None` for an event that was done. Does not allocate.
 pub fn undone_line(outcome: &Outcome) -> Option<&'static str>
     ensures line { IfSome result (λ line. line.now ≡ outcome_bytes outcome.now ++ 10 ∷ []) }
     ensures done { result ≡ None → WasDone outcome.now }
@@ -39,7 +39,8 @@ pub fn undone_line(outcome: &Outcome) -> Option<&'static str>
     }
 }
 
-/// Returns the line that reports why an event is refused, with its LF.
+/// Returns the line that reports why an event is refused, by a number from 101 to 109, with its LF.
+/// Does not allocate.
 fn refused_line(reason: Refused) -> &'static str
     ensures { result.now ≡ outcome_bytes (Outcome.Refused reason) ++ 10 ∷ [] }
 {
@@ -66,7 +67,8 @@ fn band_text(alloc: Global, left: u64) -> Result<String, AllocError>
     format!(in alloc; "{{\"left\":{left},\"ok\":\"band\"}}")
 }
 
-/// Returns the JSON value of an outcome. An event that ran out of memory is refused with number 0.
+/// Returns the JSON value of an outcome. The value of an event that ran out of memory is a refusal
+/// with number 0.
 fn outcome_value(alloc: Global, outcome: &Outcome) -> Result<Value, AllocError>
     ensures { IfOk result (λ value. view value ≡ outcome_data outcome.now) }
 {
@@ -85,14 +87,15 @@ fn outcome_value(alloc: Global, outcome: &Outcome) -> Result<Value, AllocError>
     }
 }
 
-/// Returns the JSON value of a refused event, with the number of the reason.
+/// Returns the JSON value of a refused event: `refused` with this number.
 fn refused_value(alloc: Global, number: u8) -> Result<Value, AllocError>
     ensures { IfOk result (λ value. view value ≡ refused number) }
 {
     json!(in alloc; {"refused": number})
 }
 
-/// Returns the JSON value of a collect, with this reply.
+/// Returns the JSON value of a collect: `ok` with `collect`, and `reply` with the value of this
+/// reply.
 fn collected_value(alloc: Global, reply: &Reply) -> Result<Value, AllocError>
     ensures { IfOk result (λ value. view value ≡ outcome_data (Outcome.Collected reply.now)) }
 {
@@ -100,7 +103,8 @@ fn collected_value(alloc: Global, reply: &Reply) -> Result<Value, AllocError>
     ok_value_with(alloc, "collect", "reply", reply)
 }
 
-/// Returns the JSON value of an event of this word, after which so many bands are left.
+/// Returns the JSON value of an event after which so many bands are left: `ok` with this word, and
+/// `left` with their number.
 fn left_value(alloc: Global, word: &str, left: u64) -> Result<Value, AllocError>
     ensures { IfOk result (λ value. view value ≡ left_after left word.now) }
 {

@@ -11,8 +11,9 @@ use crate::limits::LINE_LIMIT;
 use cam6_commands::Command;
 use cam6_planes::bits_of_digits;
 
-/// Returns the command that a line is read as, if the line is spelled plainly and has one of the
-/// five commands that are sent most. Returns `None` for any other line.
+/// Returns the command of a line that is spelled plainly: its keys in the usual order, and no
+/// spaces. It is `run`, `back`, `plane`, `row` or `set`. Returns `None` for any other line, and for
+/// one of more than 16,384 bytes.
 pub(crate) fn plain_command(line: &[u8]) -> Option<Command>
     ensures said { IfSome result (λ command. what_is_said line.now ≡ Ok command) }
     ensures texts { IfSome result (λ command. HasText command) }
@@ -29,8 +30,8 @@ pub(crate) fn plain_command(line: &[u8]) -> Option<Command>
     }
 }
 
-/// Returns the command of a line that runs steps or shows a row. Returns `None` for any other line
-/// or spelling.
+/// Returns the command of a plain line that runs steps or shows a row. The line has at most 16,384
+/// bytes. Returns `None` for any other line or spelling.
 fn plain_run_or_row(line: &[u8]) -> Option<Command>
     requires short { length line.now ≤ max_line }
     ensures said { IfSome result (λ command. what_is_said line.now ≡ Ok command) }
@@ -42,7 +43,8 @@ fn plain_run_or_row(line: &[u8]) -> Option<Command>
     }
 }
 
-/// Returns the command of a line that runs steps. Returns `None` for any other line or spelling.
+/// Returns the command of a line `{"do":"run","n":N}`. The line has at most 16,384 bytes. Returns
+/// `None` for any other line or spelling.
 fn plain_run(line: &[u8]) -> Option<Command>
     requires short { length line.now ≤ max_line }
     ensures said { IfSome result (λ command. what_is_said line.now ≡ Ok command) }
@@ -52,7 +54,8 @@ fn plain_run(line: &[u8]) -> Option<Command>
     Some(Command::Run { n })
 }
 
-/// Returns the command of a line that undoes steps. Returns `None` for any other line or spelling.
+/// Returns the command of a line `{"do":"back","n":N}`. The line has at most 16,384 bytes. Returns
+/// `None` for any other line or spelling.
 fn plain_back(line: &[u8]) -> Option<Command>
     requires short { length line.now ≤ max_line }
     ensures said { IfSome result (λ command. what_is_said line.now ≡ Ok command) }
@@ -62,7 +65,8 @@ fn plain_back(line: &[u8]) -> Option<Command>
     Some(Command::Back { n })
 }
 
-/// Returns the command of a line that shows a plane. Returns `None` for any other line or spelling.
+/// Returns the command of a line `{"do":"plane","plane":N}`. The line has at most 16,384 bytes.
+/// Returns `None` for any other line or spelling.
 fn plain_plane(line: &[u8]) -> Option<Command>
     requires short { length line.now ≤ max_line }
     ensures said { IfSome result (λ command. what_is_said line.now ≡ Ok command) }
@@ -72,7 +76,8 @@ fn plain_plane(line: &[u8]) -> Option<Command>
     Some(Command::Plane { plane })
 }
 
-/// Returns the command of a line that shows a row. Returns `None` for any other line or spelling.
+/// Returns the command of a line `{"do":"row","plane":N,"row":N}`. The line has at most 16,384
+/// bytes. Returns `None` for any other line or spelling.
 fn plain_row(line: &[u8]) -> Option<Command>
     requires short { length line.now ≤ max_line }
     ensures said { IfSome result (λ command. what_is_said line.now ≡ Ok command) }
@@ -86,7 +91,8 @@ fn plain_row(line: &[u8]) -> Option<Command>
     Some(Command::Row { plane, row })
 }
 
-/// Returns the command of a line that sets a row. Returns `None` for any other line or spelling.
+/// Returns the command of a line `{"do":"set","plane":N,"row":N,"bits":".."}`. The line has at most
+/// 16,384 bytes. Returns `None` for any other line or spelling.
 fn plain_set(line: &[u8]) -> Option<Command>
     requires short { length line.now ≤ max_line }
     ensures said { IfSome result (λ command. what_is_said line.now ≡ Ok command) }
@@ -103,8 +109,8 @@ fn plain_set(line: &[u8]) -> Option<Command>
     Some(Command::Set { plane, row, bits })
 }
 
-/// Returns the number of a text that is `front`, a number and a brace, or `None` for any other
-/// text.
+/// Returns the number of a text that is `front`, a decimal number and `}`. Returns `None` for any
+/// other text, or if the number isn't below 2 to the power of 64.
 fn number_within(text: &[u8], front: &[u8]) -> Option<u64>
     ensures { IfSome result (λ n. (text.now ≡ front.now ++ decimal n ++ codes "}")
         × (n < 2 ^ 64)) }
@@ -118,7 +124,7 @@ fn number_within(text: &[u8], front: &[u8]) -> Option<u64>
 }
 
 /// Returns the number at the start of a text, spelled in decimal as JSON has it, and what comes
-/// after it. Returns `None` if the text begins with no such number.
+/// after it. Returns `None` if the text begins with no such number below 2 to the power of 64.
 fn number_before(text: &[u8]) -> Option<(u64, &[u8])>
     ensures { IfSome result (λ found. (text.now ≡ decimal found.0 ++ found.1.now)
         × (found.0 < 2 ^ 64)) }
@@ -129,7 +135,8 @@ fn number_before(text: &[u8]) -> Option<(u64, &[u8])>
     Some((n, rest))
 }
 
-/// Returns the number of the decimal digits at the start of a text, modulo 2 to the power of 64.
+/// Returns the number of the decimal digits at the start of a text, modulo 2 to the power of 64. It
+/// is 0 if there is none.
 fn number_of_digits(text: &[u8]) -> u64 {
     let mut n: u64 = 0;
     for byte in text {

@@ -34,7 +34,7 @@ const HEX_DIGITS: [u8; 16] = *b"0123456789abcdef";
 /// The bytes of the longest reply that shows a row, with its LF, and a few more.
 const SHORT_LINE: usize = 160;
 
-/// Returns the line that reports a reply, without its LF.
+/// Returns the line that reports a reply, without its LF. Its keys are in byte order.
 pub fn reply_text(alloc: Global, reply: &Reply) -> Result<String, NoMemory>
     ensures text { IfOk result (λ text. string_bytes text ≡ reply_bytes reply.now) }
     ensures value { IfOk result (λ text. read (string_bytes text) ≡ Some (reply_data reply.now)) }
@@ -63,7 +63,7 @@ fn value_text(alloc: Global, reply: &Reply) -> Result<String, NoMemory>
     Ok(reply_value(alloc, reply)?.to_string(alloc)?)
 }
 
-/// Returns the text that is `front`, a number and a brace.
+/// Returns the text that is `front`, a decimal number and `}`.
 fn number_text(alloc: Global, front: &str, n: usize) -> Result<String, AllocError>
     ensures text { IfOk result (λ text. string_bytes text ≡ front.now ++ decimal n ++ codes "}") }
     ensures fits { n < 2 ^ 64 }
@@ -91,8 +91,8 @@ fn row_text(alloc: Global, bits: &RowText) -> Result<String, AllocError>
     Ok(String::from_utf8(writer.into_inner()).unwrap())
 }
 
-/// Returns the line, with its LF, of a reply that only says what was done. Returns `None` for any
-/// other reply. Does not allocate.
+/// Returns the line, with its LF, of a reply that only says what was done, such as `{"ok":"set"}`.
+/// Returns `None` for any other reply. Does not allocate.
 pub fn fixed_line(reply: &Reply) -> Option<&'static str>
     ensures { IfSome result (λ line. line.now ≡ reply_bytes reply.now ++ 10 ∷ []) }
 {
@@ -112,8 +112,8 @@ pub fn fixed_line(reply: &Reply) -> Option<&'static str>
     }
 }
 
-/// Returns the line, without its LF, of a reply that only says what was done. Returns `None` for
-/// any other reply. Does not allocate.
+/// Returns the line, without its LF, of a reply that only says what was done, such as
+/// `{"ok":"set"}`. Returns `None` for any other reply. Does not allocate.
 pub fn fixed_text(reply: &Reply) -> Option<&'static str>
     ensures text { IfSome result (λ text. text.now ≡ reply_bytes reply.now) }
     ensures others { result ≡ None → is_fixed reply.now ≡ false }
@@ -134,7 +134,8 @@ pub fn fixed_text(reply: &Reply) -> Option<&'static str>
     }
 }
 
-/// Returns the line that reports a line's fault, without its LF. Does not allocate.
+/// Returns the line that reports a line's fault other than `NoMemory`, which has none. It has no
+/// LF. Does not allocate.
 pub fn fault_text(fault: LineFault) -> &'static str
     requires fault { fault ≢ LineFault.NoMemory }
     ensures { result.now ≡ fault_bytes fault }
@@ -148,7 +149,8 @@ pub fn fault_text(fault: LineFault) -> &'static str
     }
 }
 
-/// Returns the line that reports a line's fault, with its LF. Does not allocate.
+/// Returns the line that reports a line's fault other than `NoMemory`, which has none. It has its
+/// LF. Does not allocate.
 pub fn fault_line(fault: LineFault) -> &'static str
     requires fault { fault ≢ LineFault.NoMemory }
     ensures { result.now ≡ fault_bytes fault ++ 10 ∷ [] }
@@ -238,7 +240,7 @@ fn save_value(alloc: Global, machine: &SavedMachine) -> Result<Value, AllocError
 }
 
 /// Returns the JSON value of a refusal: `fault` with its number. It also has where the fault lies,
-/// if it lies somewhere.
+/// as `token`, `address` or `entry` and `half`, if it lies somewhere.
 fn refusal_value(alloc: Global, refusal: Refusal) -> Result<Value, AllocError>
     ensures { IfOk result (λ value. view value ≡ refusal_data refusal) }
 {
@@ -252,7 +254,8 @@ fn refusal_value(alloc: Global, refusal: Refusal) -> Result<Value, AllocError>
     }
 }
 
-/// Returns the JSON value of a fault, with one more member: the value `told` at this key.
+/// Returns the JSON value of a fault: `fault` with its number, and one more member, the value
+/// `told` at this key.
 fn fault_value(alloc: Global, fault: u8, key: &str, told: Value) -> Result<Value, AllocError>
     ensures { IfOk result (λ value. view value ≡ object
         (put_member (codes "fault") (natural fault) (put_member key.now (view told) no_members))) }
@@ -260,7 +263,8 @@ fn fault_value(alloc: Global, fault: u8, key: &str, told: Value) -> Result<Value
     json!(in alloc; {key: told, "fault": fault})
 }
 
-/// Returns the JSON value of the reply to `run` or `back`, with the position after the steps.
+/// Returns the JSON value of the reply to `run` or `back`: `ok` with this word, and the position in
+/// the cycle after the steps.
 fn moved_value(alloc: Global, word: &str, position: usize) -> Result<Value, AllocError>
     ensures { IfOk result (λ value.
         view value ≡ done word.now (member (codes "position") (natural position) no_members)) }
@@ -269,7 +273,7 @@ fn moved_value(alloc: Global, word: &str, position: usize) -> Result<Value, Allo
 }
 
 /// Returns the JSON value of the refusal to undo a step of an entry, with the cause why the half's
-/// rule can't be undone.
+/// rule can't be undone. Entries are numbered from 0.
 fn cause_value(
     alloc: Global,
     entry: usize,
@@ -290,7 +294,8 @@ fn cause_value(
     }
 }
 
-/// Returns the JSON value of a cause that has no members of its own.
+/// Returns the JSON value of a cause of this word that has no members of its own: `cause`, `entry`,
+/// `fault` and `half`.
 fn plain_cause(
     alloc: Global,
     word: &str,
@@ -308,7 +313,7 @@ fn plain_cause(
     Ok(Value::Object(members))
 }
 
-/// Returns the members that every cause has.
+/// Returns the members that every cause has: `cause` with this word, `entry`, `fault` and `half`.
 fn cause_members(
     alloc: Global,
     word: &str,
@@ -328,7 +333,8 @@ fn cause_members(
     with_text(alloc, members, "half", half)
 }
 
-/// Returns the JSON value of a meeting of two states: these members, its phase and the states.
+/// Returns the JSON value of a cause by which two states, `a` and `b`, become one: these members,
+/// `phase` and `states`.
 fn meeting_value(
     alloc: Global,
     members: Map<String, Value>,
@@ -370,7 +376,7 @@ pub(crate) fn ok_value_with(
     json!(in alloc; {key: told, "ok": word})
 }
 
-/// Returns a JSON array of the digits of each row.
+/// Returns a JSON array with a text of the digits of each row.
 fn rows_value(alloc: Global, rows: &PlaneRows) -> Result<Value, AllocError>
     ensures { IfOk result (λ value. view value ≡ array (texts rows.now)) }
 {
@@ -392,7 +398,7 @@ fn names_value(alloc: Global, names: &Names) -> Result<Value, AllocError>
     Ok(Value::Array(values))
 }
 
-/// Returns a JSON text of a hexadecimal digit for each colour.
+/// Returns a JSON text of a hexadecimal digit for each colour of the row.
 fn colours_value(alloc: Global, colours: &RowColours) -> Result<Value, AllocError>
     ensures { IfOk result (λ value. view value ≡ string (map colour_digit colours.now)) }
 {
@@ -401,7 +407,8 @@ fn colours_value(alloc: Global, colours: &RowColours) -> Result<Value, AllocErro
     Value::try_from_str(alloc, digits(&text[..colours.len()]))
 }
 
-/// Returns an array that begins with the hexadecimal digit of each colour.
+/// Returns an array that begins with the hexadecimal digit of each colour, in lower case. There are
+/// at most 512 colours, each below 16. The rest of the array is 0.
 fn colour_digits(colours: &[u8]) -> [u8; COLUMNS]
     requires few { length colours.now ≤ COLUMNS }
     requires small { AllByRecursion (λ colour. colour ≤ max_colour) colours.now }
@@ -415,7 +422,7 @@ fn colour_digits(colours: &[u8]) -> [u8; COLUMNS]
     text
 }
 
-/// Returns these bytes, which are ASCII digits, as text.
+/// Returns these bytes, which have to be ASCII, as text.
 fn digits(row: &[u8]) -> &str
     requires row { IsAscii row.now }
     ensures { result.now ≡ row.now }

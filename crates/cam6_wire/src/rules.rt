@@ -44,9 +44,9 @@ impl<'a> BorrowedRule<'a> {
     }
 }
 
-/// Returns the rule of the keys `half`, `hood`, `minor`, `name` and `text`, with texts borrowed
-/// from the value. Returns `None` if one is missing or wrong. Doesn't look at other keys. Does not
-/// allocate.
+/// Returns the rule of the members `half`, `hood`, `minor`, `name` and `text`, with texts borrowed
+/// from the value. Returns `None` if one is missing or wrong. Doesn't look at other members. Does
+/// not allocate.
 pub(crate) fn rule_fields(value: &Value) -> Option<BorrowedRule<'_>>
     ensures { result ≡ rule_fields (view value.now) }
 {

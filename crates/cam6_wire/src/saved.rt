@@ -25,7 +25,7 @@ pub enum Version {
 /// How a line ends that loads a machine in the first version.
 const END_OF_FIRST: &[u8] = b"\"version\":1}}";
 
-/// Whether a line is exactly the line that loads this machine, in either version.
+/// Whether a line, without its LF, is exactly the line that loads this machine, in either version.
 pub(crate) fn is_load_line(
     alloc: Global,
     line: &[u8],
@@ -46,7 +46,7 @@ pub(crate) fn is_load_line(
     is_load_line_in(alloc, line, Version::First, saved)
 }
 
-/// Whether a line is exactly the line that loads this machine in a version.
+/// Whether a line, without its LF, is exactly the line that loads this machine in a version.
 fn is_load_line_in(
     alloc: Global,
     line: &[u8],
@@ -111,7 +111,7 @@ fn shared_members(alloc: Global, saved: &SavedMachine) -> Result<Map<String, Val
     let rules = rules_value(alloc, saved.rules.as_slice())?;
     with_member(alloc, members, "rules", rules)
 }
-/// Returns the JSON value of these members and a member with the version.
+/// Returns the JSON object of these members and a member `version` with this number.
 fn versioned_value(
     alloc: Global,
     members: Map<String, Value>,
@@ -124,7 +124,7 @@ fn versioned_value(
     Ok(Value::Object(members))
 }
 
-/// Returns a JSON array of a number for each state.
+/// Returns a JSON array of sixteen numbers, the colour of each state.
 fn colours_value(alloc: Global, colours: &[u64; 16]) -> Result<Value, AllocError>
     ensures { IfOk result (λ value. view value ≡ array (naturals colours.now)) }
 {

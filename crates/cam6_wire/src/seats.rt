@@ -23,8 +23,9 @@ pub enum Seating {
     NoUser,
 }
 
-/// Returns the number of the user that a first line asks for, counted from 1, or the line's fault.
-/// Does not check that there is such a user.
+/// Returns the number of the user that a first line, without its LF, asks for. Users are counted
+/// from 1. Else returns the line's fault, or `NoMemory` if an allocation fails. Does not check that
+/// there is such a user.
 pub fn read_seat(alloc: Global, line: &[u8]) -> Result<u64, LineFault>
     ensures said { IsSaid result (seat line.now) }
     // An empty line and one that is too long take no memory.
@@ -35,8 +36,8 @@ pub fn read_seat(alloc: Global, line: &[u8]) -> Result<u64, LineFault>
     seat_shown(&value).ok_or(LineFault::NoCommand)
 }
 
-/// Returns the number of the user for whom an object with the key `seat` and no other asks. Returns
-/// `None` for any other value.
+/// Returns the number at `seat` of an object that has no other member. Returns `None` for any other
+/// value.
 #[tactic(auto, unfolding(crate::specs::Seats::seat_in))]
 fn seat_shown(value: &Value) -> Option<u64>
     ensures { result ≡ seat_in (view value.now) }
@@ -47,7 +48,7 @@ fn seat_shown(value: &Value) -> Option<u64>
     number_at(value, "seat")
 }
 
-/// Returns the line that answers a first line, with its LF.
+/// Returns the line that answers a first line, with its LF. Does not allocate.
 pub fn seating_line(seating: Seating) -> &'static str
     ensures { result.now ≡ seating_bytes seating ++ 10 ∷ [] }
 {
