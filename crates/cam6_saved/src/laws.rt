@@ -3,7 +3,7 @@
 ghost use Rattle.cam6_saved.specs.Laws.{LineIsSaid, LineGivesBack, NoOtherLineLoads};
 ghost use Rattle.cam6_saved.specs.Laws.{OneTextOneMachine};
 
-/// The line of a saved machine is read as the load of this machine.
+/// The line that loads a saved machine, in the second version, is read as the load of this machine.
 pub fn a_machines_line_is_said()
     ensures law { LineIsSaid }
 {}
