@@ -3,13 +3,14 @@
 ghost use Rattle.cam6_saved.specs.Laws.{LineIsSaid, LineGivesBack, NoOtherLineLoads};
 ghost use Rattle.cam6_saved.specs.Laws.{OneTextOneMachine};
 
-/// The line that loads a saved machine, in the second version, is read as the load of this machine.
+/// The line that loads a saved machine is read as the load of this machine. This holds for the
+/// second version, and for the first if the machine's side is 256.
 pub fn a_machines_line_is_said()
     ensures law { LineIsSaid }
 {}
 
-/// A machine whose limit is at least a saved machine's side does the load on this machine's line.
-/// It becomes the saved machine, except for its limit.
+/// A machine whose limit is at least a saved machine's side does the load on this machine's line,
+/// in a version that it has. It becomes the saved machine, except for its limit.
 pub fn a_machines_line_gives_it_back()
     ensures law { LineGivesBack }
 {}
