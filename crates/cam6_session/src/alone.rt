@@ -9,10 +9,10 @@ use cam6_planes::Side;
 use std::alloc::Global;
 use std::io::{BufRead, Write};
 
-/// Makes a blank machine of this limit. It does the command of each line of the reader, and answers
-/// it by one line. A line without a command is answered by its fault. Ends if the input ends, if
-/// something fails, or if the reads run out. Returns which. Each call of `fill_buf` takes one of
-/// `reads_left`.
+/// Makes a blank machine whose largest side is `limit`. It does the command of each line of the
+/// reader, and answers it by one line. A line without a command is answered by its fault. Ends if
+/// the input ends, if something fails, or if the reads run out. Returns which. Each call of
+/// `fill_buf` takes one of `reads_left`.
 pub fn serve_alone<R: BufRead, W: Write>(
     alloc: Global,
     limit: Side,

@@ -39,8 +39,8 @@ pub trait Answerer {
     /// How it answers lines.
     ghost answering: { Answering state };
 
-    /// Answers a whole line by one line of text, which it writes. If it can't, returns why serving
-    /// stops there.
+    /// Answers a whole line, without its LF, by one line, which it writes. The line may be too
+    /// long. If an allocation or the write fails, returns why serving stops there.
     fn respond<W: Write>(
         &mut self,
         alloc: Global,
@@ -73,7 +73,8 @@ impl<D: Ask> Answerer for D {
     ghost answering = { by_machine };
 
     /// Does the command of a whole line, and writes the reply as a line. If the line has no
-    /// command, writes its fault. If it can't write that, returns why serving stops there.
+    /// command, writes its fault. If an allocation or the write fails, returns why serving stops
+    /// there.
     fn respond<W: Write>(
         &mut self,
         alloc: Global,
@@ -94,7 +95,8 @@ impl<D: Ask> Answerer for D {
     }
 }
 
-/// Returns the command that a line is read as, or the line's fault.
+/// Returns the command that a line is read as. Else returns the line's fault, or `NoMemory` if an
+/// allocation fails.
 fn read_request(alloc: Global, line: &LineBuf) -> Result<Command, LineFault>
     ensures said { (l : List ℕ) → Holds line.now l → IsSaid result (what_is_said l) }
     ensures memory { (l : List ℕ) → Holds line.now l → result ≡ Err NoMemory → TakesMemory l }
@@ -127,8 +129,8 @@ fn respond_to<W: Write, D: Ask>(
     tell_reply(alloc, &reply, writer)
 }
 
-/// Writes a reply as a line. Allocates nothing for a reply that only says what was done. If an
-/// allocation or the write fails, returns why serving stops there.
+/// Writes a reply as a line. Allocates nothing for a reply that only says what was done. Returns
+/// why serving stops if the write fails, or `NoMemory` with `done: true` if an allocation fails.
 fn tell_reply<W: Write>(alloc: Global, reply: &Reply, writer: &mut W) -> Result<(), Stop>
     ensures { TellsText result (reply_bytes reply.now)
         (W.contents writer.old) (W.contents writer.new) }
@@ -144,7 +146,7 @@ fn tell_reply<W: Write>(alloc: Global, reply: &Reply, writer: &mut W) -> Result<
 }
 
 /// Writes the fault of a line that has no command, as a line. If the fault is `NoMemory`, writes
-/// nothing and stops.
+/// nothing and returns `Stop` with `done: false`. If the write fails, returns that.
 fn respond_fault<W: Write>(fault: LineFault, writer: &mut W) -> Result<(), Stop>
     ensures { (l : List ℕ) (m : Machine) → IsFaultOf fault (what_is_said l) →
         (fault ≡ NoMemory → TakesMemory l) →
@@ -153,7 +155,8 @@ fn respond_fault<W: Write>(fault: LineFault, writer: &mut W) -> Result<(), Stop>
     tell_fault(fault, writer)
 }
 
-/// Writes a line's fault as a line. If the fault is `NoMemory`, writes nothing and stops.
+/// Writes a line's fault as a line. If the fault is `NoMemory`, writes nothing and returns `Stop`
+/// with `done: false`. If the write fails, returns that.
 pub(crate) fn tell_fault<W: Write>(fault: LineFault, writer: &mut W) -> Result<(), Stop>
     ensures { TellsFault result fault (W.contents writer.old) (W.contents writer.new) }
 {
@@ -166,8 +169,8 @@ pub(crate) fn tell_fault<W: Write>(fault: LineFault, writer: &mut W) -> Result<(
     }
 }
 
-/// Writes the text and an LF. If there is no memory for the LF, writes nothing and returns `Stop`
-/// with `done: true`.
+/// Writes the text, which has no LF, and an LF. If there is no memory for the LF, writes nothing
+/// and returns `NoMemory` with `done: true`. If the write fails, returns that.
 pub(crate) fn tell<W: Write>(writer: &mut W, text: String) -> Result<(), Stop>
     ensures { TellsText result (string_bytes text) (W.contents writer.old) (W.contents writer.new) }
 {

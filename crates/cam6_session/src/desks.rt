@@ -21,7 +21,8 @@ pub trait Ask {
     /// Whether it may be asked.
     ghost is_ready: { Self → Type 0 };
 
-    /// Does the command and returns its reply. If an allocation fails, nothing changes.
+    /// Does the command and returns its reply. It must be ready to be asked. If an allocation
+    /// fails, nothing changes.
     fn ask(&mut self, command: Command) -> Result<Reply, NoMemory>
         requires { is_ready self.old }
         ensures reply { IfOk result (λ r. r ≡ reply (stands_at self.old) command) }
@@ -66,8 +67,9 @@ pub trait Waiter {
     ghost use Rattle.cam6_handoff.specs.Standing.{IsResting};
     ghost use Rattle.cam6_handoff.specs.Desks.{AskGives, WantsNone};
 
-    /// Does a command at a desk, and returns its reply, as `Desk::ask` does. May wait in its own
-    /// way for the command's steps.
+    /// Does a command at a desk that waits for no reply, and returns its reply, as `Desk::ask`
+    /// does. May wait in its own way for the command's steps. If an allocation fails, the desk is
+    /// as it was.
     fn ask(&self, desk: &mut Desk, command: Command) -> Result<Reply, NoMemory>
         requires { IsResting desk.old }
         ensures gives { IfOk result (λ reply. AskGives desk.old command reply desk.new) }
@@ -87,8 +89,9 @@ impl<R: Wait> Waiter for Unaided<R> {
     ghost use Rattle.cam6_handoff.specs.Standing.{IsResting};
     ghost use Rattle.cam6_handoff.specs.Desks.{AskGives, WantsNone};
 
-    /// Does a command at a desk, and returns its reply, by `Desk::ask`. Waits for the command's
-    /// steps by the runtime's handle alone.
+    /// Does a command at a desk that waits for no reply, and returns its reply, by `Desk::ask`.
+    /// Waits for the command's steps by the runtime's handle alone. If an allocation fails, the
+    /// desk is as it was.
     fn ask(&self, desk: &mut Desk, command: Command) -> Result<Reply, NoMemory>
         requires { IsResting desk.old }
         ensures gives { IfOk result (λ reply. AskGives desk.old command reply desk.new) }
@@ -121,8 +124,9 @@ impl<W: Waiter> Ask for AtDesk<W> {
     // A desk may be asked while it doesn't wait, and no longer waits when it has answered.
     ghost is_ready = { λ d. IsResting d.desk };
 
-    /// Does a command at the desk, and returns its reply. The waiter waits for the command's steps,
-    /// whichever boards do them. If an allocation fails, the desk is as it was.
+    /// Does a command at the desk, which waits for no reply, and returns its reply. The waiter
+    /// waits for the command's steps, whichever boards do them. If an allocation fails, the desk is
+    /// as it was.
     fn ask(&mut self, command: Command) -> Result<Reply, NoMemory>
         requires { IsResting self.old.desk }
         ensures reply { IfOk result (λ r. r ≡ reply (machine_at self.old.desk) command) }

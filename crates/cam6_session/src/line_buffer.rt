@@ -35,7 +35,7 @@ impl LineBuf {
     ghost use Rattle.cam6_session.specs.Held.{Holds, Grows, is_empty};
     ghost use Rattle.cam6_session.specs.Reading.{IsLongLoad};
 
-    /// Makes an empty line, with room for any line that isn't a load.
+    /// Makes an empty line, with room for any line that isn't a load: 16,384 bytes.
     pub fn new(alloc: Global) -> Result<LineBuf, NoMemory>
         ensures ok { IfOk result (λ line. Holds line []) }
     {
@@ -54,9 +54,9 @@ impl LineBuf {
         self.is_long = false;
     }
 
-    /// Adds a part at the line's end. If the line is above its limit then, keeps only that it is
-    /// too long. Allocates once, for a line that begins as a load and is longer than any other may
-    /// be. If that fails, the line stays as it was.
+    /// Adds a part, which has no LF, at the line's end. If the line is above its limit then, keeps
+    /// only that it is too long. Allocates once, for a load of more than 16,384 bytes. If that
+    /// fails, the line stays as it was.
     pub fn add(&mut self, part: &[u8]) -> Result<(), NoMemory>
         ensures ok { OnOk result (Grows self.old self.new part.now) }
         ensures kept { OnErr result (self.new ≡ self.old) }
@@ -75,14 +75,15 @@ impl LineBuf {
         Ok(())
     }
 
-    /// Whether the line has no byte.
+    /// Whether the line has no byte. A line above its limit isn't empty.
     pub fn is_empty(&self) -> bool
         ensures { result ≡ is_empty self.now }
     {
         !self.is_long && self.bytes.is_empty()
     }
 
-    /// Whether the line is above its limit.
+    /// Whether the line is above its limit: 2,097,152 bytes if it begins as a load does, and else
+    /// 16,384.
     pub fn is_long(&self) -> bool
         ensures { result ≡ self.now.is_long }
     {
@@ -102,7 +103,8 @@ impl LineBuf {
     }
 }
 
-/// Whether the line that is `front` and then `part` is above its limit.
+/// Whether the line that is `front` and then `part` is above its limit. `front` has at most
+/// 2,097,152 bytes.
 fn is_too_long(front: &[u8], part: &[u8]) -> bool
     requires { length front.now ≤ max_load_line }
     ensures { result ≡ nat_lt (limit_of (front.now ++ part.now))
@@ -115,7 +117,8 @@ fn is_too_long(front: &[u8], part: &[u8]) -> bool
     length > LOAD_LINE_LIMIT || !begins_load_in(front, part)
 }
 
-/// Makes room for `more` more bytes. Allocates only if no line but a load may be as long as that.
+/// Makes room for `more` more bytes. With them, there are at most 2,097,152. Allocates only if
+/// there are more than 16,384, as only a load may have.
 fn make_room(bytes: &mut Vec<u8>, more: usize) -> Result<(), NoMemory>
     requires room { max_line ≤ vec_capacity bytes.old }
     requires few { vec_len bytes.old + more ≤ max_load_line }

@@ -35,8 +35,9 @@ enum Part {
     NoMemory,
 }
 
-/// Reads one line into `line`, without its LF, and drops what was there. Returns whether a line was
-/// read, or why not. Each call of `fill_buf` takes one of `reads_left`.
+/// Drops what `line` has, and reads the next line into it, without its LF. Returns `Ended` or
+/// `Last` if there was one, even if it is too long, or why not. Each call of `fill_buf` takes one
+/// of `reads_left`.
 pub fn next_line<R: BufRead>(reader: &mut R, line: &mut LineBuf, reads_left: &mut u64) -> Line
     ensures line { Reads result (R.remaining reader.old) (R.remaining reader.new) line.new }
     ensures reads_left { CountsReads result reads_left.old reads_left.new }
@@ -46,9 +47,10 @@ pub fn next_line<R: BufRead>(reader: &mut R, line: &mut LineBuf, reads_left: &mu
     read_line(reader, line, reads_left, Extent::ToItsEnd)
 }
 
-/// Reads one line into `line`, without its LF, and returns whether a line was read, or why not. Of
-/// a line that is too long it reads only enough to know that. Then it returns `Line::Ended`, and
-/// the line's rest is unread. Each call of `fill_buf` takes one of `reads_left`.
+/// Drops what `line` has, and reads the next line into it, without its LF. Returns `Ended` or
+/// `Last` if there was one, or why not. Of a line that is too long it reads only enough to know
+/// that. Then it returns `Ended`, and the line's rest is unread. Each call of `fill_buf` takes one
+/// of `reads_left`.
 pub fn next_line_within<R: BufRead>(
     reader: &mut R,
     line: &mut LineBuf,
@@ -73,7 +75,7 @@ impl Extent {
     ghost use Rattle.std.specs.Prelude.{true};
     ghost use Rattle.cam6_session.specs.declared.lines.Extent.TheVariants.{UntilTooLong};
 
-    /// Whether enough of a line has been read, so that no more of it is needed.
+    /// Whether no more of a line is needed: it is too long, and is to be read only until it is.
     fn is_met(self, line: &LineBuf) -> bool
         ensures { result ≡ true → (self ≡ UntilTooLong) × (line.now.is_long ≡ true) }
     {
@@ -84,8 +86,9 @@ impl Extent {
     }
 }
 
-/// Reads one line into `line`, to its end or until it is too long, as `extent` has it. Returns
-/// whether a line was read, or why not.
+/// Drops what `line` has, and reads the next line into it, to its end or until it is too long, as
+/// `extent` has it. Returns `Ended` or `Last` if there was one, or why not. Each call of `fill_buf`
+/// takes one of `reads_left`.
 fn read_line<R: BufRead>(
     reader: &mut R,
     line: &mut LineBuf,
@@ -116,8 +119,7 @@ fn read_line<R: BufRead>(
     Line::TurnBound
 }
 
-/// Returns how reading ends at the end of the input: with a last line, or with none if `line` is
-/// empty.
+/// Returns how reading ends at the end of the input: `Last`, or `EndOfInput` if `line` is empty.
 fn at_end_of_input(line: &LineBuf) -> Line
     ensures { result ≡ (if is_empty line.now then Line.EndOfInput else Line.Last) }
 {
@@ -128,8 +130,8 @@ fn at_end_of_input(line: &LineBuf) -> Line
     }
 }
 
-/// Calls `fill_buf` once. Adds the bytes that it has to the line, up to the line's LF, and consumes
-/// them and the LF.
+/// Calls `fill_buf` once. Adds the bytes that it shows to the line, up to the line's LF, and
+/// consumes them and the LF. Returns what it found. Consumes nothing if an allocation fails.
 fn take_part<R: BufRead>(reader: &mut R, line: &mut LineBuf) -> Part
     ensures { TakesPart result (R.remaining reader.old) (R.remaining reader.new) line.old line.new }
 {

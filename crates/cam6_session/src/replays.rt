@@ -67,7 +67,7 @@ impl Answerer for Core {
     ghost answering = { by_core };
 
     /// Does the event of a whole line, and writes its outcome as a line. If the line has no event,
-    /// writes its fault. If it can't write that, returns why serving stops there.
+    /// writes its fault. If an allocation or the write fails, returns why serving stops there.
     fn respond<W: Write>(
         &mut self,
         alloc: Global,
@@ -86,7 +86,8 @@ impl Answerer for Core {
     }
 }
 
-/// Returns the event that a line is read as, or the line's fault.
+/// Returns the event that a line is read as. Else returns the line's fault, or `NoMemory` if an
+/// allocation fails.
 fn read_request(alloc: Global, line: &LineBuf) -> Result<Event, LineFault>
     ensures said { (l : List ℕ) → Holds line.now l → IsSaid result (what_happens l) }
     ensures memory { (l : List ℕ) → Holds line.now l → result ≡ Err NoMemory → TakesMemory l }
@@ -113,6 +114,8 @@ fn respond_to<W: Write>(
 }
 
 /// Writes the outcome of an event as a line. Allocates only for the text of an event that was done.
+/// Returns why serving stops if the write fails, or `NoMemory` with `done: true` if an allocation
+/// fails.
 fn tell_outcome<W: Write>(alloc: Global, outcome: &Outcome, writer: &mut W) -> Result<(), Stop>
     ensures told { TellsText result (outcome_bytes outcome.now)
         (W.contents writer.old) (W.contents writer.new) }
@@ -131,7 +134,7 @@ fn tell_outcome<W: Write>(alloc: Global, outcome: &Outcome, writer: &mut W) -> R
 }
 
 /// Writes the fault of a line that has no event, as a line. If the fault is `NoMemory`, writes
-/// nothing and stops.
+/// nothing and returns `Stop` with `done: false`. If the write fails, returns that.
 fn respond_fault<W: Write>(fault: LineFault, writer: &mut W) -> Result<(), Stop>
     ensures { (l : List ℕ) (s : State) → IsFaultOf fault (what_happens l) →
         (fault ≡ NoMemory → TakesMemory l) →

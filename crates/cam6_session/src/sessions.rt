@@ -69,7 +69,7 @@ impl From<Stop> for End {
 
 /// Does the command of each line at the desk, and answers it by one line. A line without a command
 /// is answered by its fault. Ends if the input ends, if something fails, or if the reads run out.
-/// Each call of `fill_buf` takes one of `reads_left`.
+/// Returns which. The desk is ready to be asked. Each call of `fill_buf` takes one of `reads_left`.
 pub fn serve<R: BufRead, W: Write, D: Ask>(
     alloc: Global,
     reader: &mut R,
@@ -90,9 +90,9 @@ pub fn serve<R: BufRead, W: Write, D: Ask>(
     answer_lines(alloc, reader, writer, desk, reads_left)
 }
 
-/// Has the answerer answer each line of the reader by one line. Ends if the input ends, if
-/// something fails, or if the reads run out. Returns which. Each call of `fill_buf` takes one of
-/// `reads_left`.
+/// Has the answerer, which has to be ready, answer each line of the reader by one line. Ends if the
+/// input ends, if something fails, or if the reads run out. Returns which. Each call of `fill_buf`
+/// takes one of `reads_left`.
 pub fn answer_lines<R: BufRead, W: Write, A: Answerer>(
     alloc: Global,
     reader: &mut R,
