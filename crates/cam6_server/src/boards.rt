@@ -21,7 +21,8 @@ pub struct IdleBoard {
 }
 
 impl IdleBoard {
-    /// Makes an empty board at this seat.
+    /// Makes an empty board at this seat, which holds no command. Fails only if an allocation
+    /// fails.
     fn new(alloc: Global, seat: BoardSeat) -> Result<IdleBoard, NoMemory>
         requires { IsIdle seat }
     {
@@ -29,14 +30,15 @@ impl IdleBoard {
         Ok(IdleBoard { seat, board })
     }
 
-    /// Serves users until the gate of the host ends it. The board never fails, so it ends in no
-    /// other way.
+    /// Serves users with the board until the gate of the host ends it. The board never fails, so it
+    /// ends in no other way.
     pub fn serve<R: Handle>(self, host: &HostState<R>) {
         serve_board(&host.rt, self.seat, self.board, &host.cache, &host.gate);
     }
 }
 
-/// Makes an empty board that never fails at each of these seats.
+/// Makes an empty board that never fails at each of these seats, which hold no commands. Fails only
+/// if an allocation fails.
 pub fn boards_at(alloc: Global, seats: Vec<BoardSeat>) -> Result<Vec<IdleBoard>, NoMemory>
     requires { AreIdle seats.items }
 {

@@ -65,8 +65,9 @@ pub fn converse<H: Handle, R: BufRead, W: Write, C: Connection>(
     }
 }
 
-/// Reads the first line. Returns the number of the seat that it asks for, or the line's fault.
-/// Returns `Err` with the reason if nothing is to be answered.
+/// Reads the first line. Returns the number of the user whose seat it asks for, or the line's
+/// fault. Returns `Err` with the reason if nothing is to be answered: no line, a failed read, no
+/// memory, or too many reads.
 fn first_line<R: BufRead>(alloc: Global, reader: &mut R) -> Result<Result<u64, LineFault>, End>
     ensures read { ReadsFirst result (R.remaining reader.old) (R.remaining reader.new) }
     ensures memory { result ≢ Ok (Err LineFault.NoMemory) }
@@ -84,8 +85,8 @@ fn first_line<R: BufRead>(alloc: Global, reader: &mut R) -> Result<Result<u64, L
     }
 }
 
-/// Returns the number of the seat that a line asks for, or the line's fault. Returns `Err` if an
-/// allocation fails, since nothing is answered then.
+/// Returns the number of the user whose seat a line asks for, or the line's fault. Returns `Err` if
+/// an allocation fails, since nothing is answered then.
 fn answerable(alloc: Global, line: &LineBuf) -> Result<Result<u64, LineFault>, End>
     ensures said { (l : List ℕ) → Holds line.now l → Tells result l }
     ensures memory { result ≢ Ok (Err LineFault.NoMemory) }
@@ -96,7 +97,8 @@ fn answerable(alloc: Global, line: &LineBuf) -> Result<Result<u64, LineFault>, E
     }
 }
 
-/// Returns the number of the seat that a line asks for, or the line's fault.
+/// Returns the number of the user whose seat a line asks for, counted from 1. Else returns the
+/// line's fault, or `NoMemory` if an allocation fails.
 fn read_request(alloc: Global, line: &LineBuf) -> Result<u64, LineFault>
     ensures said { (l : List ℕ) → Holds line.now l → IsSaid result (seat l) }
     ensures memory { result ≡ Err LineFault.NoMemory →
@@ -108,8 +110,8 @@ fn read_request(alloc: Global, line: &LineBuf) -> Result<u64, LineFault>
     read_seat(alloc, bytes)
 }
 
-/// Writes the answer to a first line that gets no seat. Returns `Refused`, or `Unheard` if the
-/// answer can't be written whole.
+/// Writes the answer to a first line that gets no seat. `answer` has its LF. Returns `Refused`, or
+/// `Unheard` if the answer can't be written whole.
 fn refuse<W: Write>(writer: &mut W, answer: &str) -> Visit
     ensures { AnswersOnly result answer.now (W.contents writer.old) (W.contents writer.new) }
 {
@@ -119,8 +121,9 @@ fn refuse<W: Write>(writer: &mut W, answer: &str) -> Visit
     }
 }
 
-/// Notes that the client has its seat, and serves a session at the user's desk. Then gives the desk
-/// back to its place. Whoever takes the desk next finds the machine as it is then.
+/// Notes that the client has its seat, and serves a session at the user's desk, which waits for no
+/// reply. Sends what is held back, and gives the desk back to its place. Whoever takes the desk
+/// next finds the machine as it is then.
 fn serve_at_desk<H: Handle, R: BufRead, W: Write, C: Connection>(
     host: &HostState<H>,
     reader: &mut R,
@@ -141,8 +144,9 @@ fn serve_at_desk<H: Handle, R: BufRead, W: Write, C: Connection>(
     visit
 }
 
-/// Writes to the client that it has its seat. Then answers the lines after the first one, by
-/// `answer_lines`. If the first write fails, answers none.
+/// Writes to the client that it has its seat. Then answers the lines after the first one at the
+/// desk, which is ready, and returns how that ended. If the first write fails, answers none and
+/// returns `Unheard`.
 fn sit_down<R: BufRead, W: Write, D: Ask>(
     alloc: Global,
     reader: &mut R,

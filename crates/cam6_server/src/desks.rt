@@ -24,8 +24,9 @@ impl<'a, R: Wait + Clock + Drop, C: Connection> Waiter for AtGate<'a, R, C> {
     ghost use Rattle.cam6_handoff.specs.Standing.{IsResting};
     ghost use Rattle.cam6_handoff.specs.Desks.{AskGives, WantsNone};
 
-    /// Does a command at a desk, and returns its reply, as `Desk::ask` does. Before it waits for
-    /// steps, it rings the gate, and the connection sends the answers that it holds back.
+    /// Does a command at a desk that waits for no reply, and returns its reply, as `Desk::ask`
+    /// does. Before it waits for steps, it rings the gate, and the connection sends the answers
+    /// that it holds back.
     fn ask(&self, desk: &mut Desk, command: Command) -> Result<Reply, NoMemory>
         requires { IsResting desk.old }
         ensures gives { IfOk result (λ reply. AskGives desk.old command reply desk.new) }

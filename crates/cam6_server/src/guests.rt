@@ -52,8 +52,8 @@ impl Model for Guests {
 }
 
 impl Guests {
-    /// Makes the counts of a host at which no client is connected. There is room for `users + 64`
-    /// clients that wait.
+    /// Makes the counts of a host at which no client is connected. There are at most 32 users, and
+    /// there is room for `users + 64` clients that wait.
     pub fn new(users: usize) -> Guests
         requires { users ≤ max_users }
         ensures { result ≡ nobody (users + 64) }
@@ -67,7 +67,8 @@ impl Guests {
         }
     }
 
-    /// Counts one more waiting client, or returns false if there is no room for it.
+    /// Counts one more client, as waiting for a seat, and returns true. Returns false and counts
+    /// none if there is no room for it.
     pub fn enter(&mut self) -> bool
         ensures { Enters self.old result self.new }
     {
@@ -78,7 +79,8 @@ impl Guests {
         true
     }
 
-    /// Counts one more waiting client that holds a long line, or returns false if 8 already do.
+    /// Counts one of the waiting clients as holding a long first line, and returns true. Returns
+    /// false and counts none if 8 already do.
     pub fn lengthen(&mut self) -> bool
         ensures { Lengthens self.old result self.new }
     {

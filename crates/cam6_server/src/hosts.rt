@@ -30,11 +30,11 @@ const QUIET: u32 = 3_000;
 
 /// Serves the connections of a listener. Each user has a machine, and each board and each connection
 /// has a thread. Closes the listener after the last connection that `serving` allows, waits until all
-/// clients are gone, and then ends the boards.
+/// clients are gone, and then ends the boards. Fails if an allocation or a board's thread fails.
 ///
 /// Accepting fails if the system has no file left, for example. The host then tries again without end,
 /// and reports that on standard error once a minute, so that users keep their machines. Before any
-/// client has had a seat, the host gives up after a second.
+/// client has had a seat, the host gives up after a second, and fails with `Network`.
 pub fn serve_net<R: Handle + Eprint + Send + Sync + 'static>(
     rt: R,
     listener: TcpListener,
@@ -54,7 +54,7 @@ pub fn serve_net<R: Handle + Eprint + Send + Sync + 'static>(
 }
 
 /// Makes what the threads of a host share, and its boards, which are idle. Opens no socket and
-/// starts no thread.
+/// starts no thread. Fails only if an allocation fails.
 fn new_server<R: Handle>(
     rt: R,
     serving: &Serving,
@@ -81,8 +81,8 @@ fn idle_of(serving: &Serving) -> Option<Duration> {
     }
 }
 
-/// Makes the state that the threads of a host share. The desks are put at their places, and the
-/// gate is for the boards at these seats.
+/// Makes the state that the threads of a host share. The desks, from user 1 on, are put at their
+/// places. The gate is for the boards at these seats, of which there is at least one.
 fn host_of<R: Handle>(
     rt: R,
     serving: &Serving,
@@ -103,7 +103,7 @@ fn host_of<R: Handle>(
     })
 }
 
-/// Makes the gate of the boards at these seats.
+/// Makes the gate of the boards at these seats, of which there is at least one.
 fn gate_of<R: Handle>(
     rt: R,
     serving: &Serving,
@@ -117,8 +117,8 @@ fn gate_of<R: Handle>(
     }
 }
 
-/// Starts a thread for each board, and adds its handle to `workers`. If one can't be started,
-/// returns why. Those before it run, and are in `workers`.
+/// Starts a thread for each board, and adds its handle to `workers`. Fails if there is no thread or
+/// no memory for one. The threads before it run, and are in `workers`.
 fn start_board_threads<R: Handle + Send + Sync + 'static>(
     server: &Arc<ServerState<R>>,
     boards: Vec<IdleBoard>,
@@ -136,7 +136,8 @@ fn start_board_threads<R: Handle + Send + Sync + 'static>(
     Ok(())
 }
 
-/// Starts a thread that serves users with a board, and returns its handle.
+/// Starts a thread that serves users with a board, and returns its handle. Fails if there is no
+/// thread or no memory for it.
 fn start<R: Handle + Send + Sync + 'static>(
     server: &Arc<ServerState<R>>,
     board: IdleBoard,
@@ -151,8 +152,8 @@ fn start<R: Handle + Send + Sync + 'static>(
 }
 
 /// Accepts so many connections, or connections without end if the number is 0, and starts a thread
-/// for each. Then closes the listener, and waits until no client is connected. Fails if accepting
-/// fails for a second, and no client has ever had a seat.
+/// for each. Then closes the listener, and waits until no client is connected. Fails with `Network`
+/// if accepting fails for a second, and no client has ever had a seat.
 fn accept<R: Handle + Eprint + Send + Sync + 'static>(
     rt: R,
     server: &Arc<ServerState<R>>,
@@ -195,8 +196,8 @@ struct Failures {
 }
 
 impl Failures {
-    /// Counts one more failure to accept a connection. Reports it on standard error, unless one of
-    /// the 3,000 failures before it was reported.
+    /// Counts one more failure in a row to accept a connection. Reports it on standard error,
+    /// unless one of the 3,000 failures before it was reported.
     fn note_failure(&mut self, rt: &impl Eprint, error: &Error) {
         self.row = self.row.saturating_add(1);
         if self.quiet > 0 {

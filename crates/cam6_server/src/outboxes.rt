@@ -20,7 +20,8 @@ pub struct Outbox<W: Write + Drop> {
 }
 
 impl<W: Write + Drop> Outbox<W> {
-    /// Makes an outbox that holds nothing back yet. Allocates its buffer of 16 KiB.
+    /// Makes an outbox that holds nothing back yet. Allocates its buffer of 16 KiB, and fails only
+    /// if that fails.
     pub fn new(alloc: Global, writer: W) -> io::Result<Outbox<W>>
         ensures whole { IfOk result (λ outbox. outbox.is_broken ≡ false) }
         ensures bytes { IfOk result (λ outbox.
@@ -40,7 +41,7 @@ impl<W: Write + Drop> Outbox<W> {
     }
 
     /// Sends all that is held back. If that fails, the outbox is broken, and what wasn't sent is
-    /// still held back.
+    /// still held back. Fails at once, and sends nothing, if the outbox is broken already.
     pub fn release(&mut self) -> io::Result<()>
         // Each byte that was written has gone to the writer, in order, and once.
         ensures gone { OnOk result
@@ -78,7 +79,8 @@ impl<W: Write + Drop> Write for Outbox<W> {
     ghost contents = { λ outbox. written W.contents outbox };
 
     /// Takes bytes, to be sent later, and returns how many it took. If there is no room for more,
-    /// first sends what is held back. If that fails, the outbox is broken.
+    /// first sends what is held back. If that fails, the outbox is broken. Fails if the outbox is
+    /// broken already.
     fn write(&mut self, bytes: &[u8]) -> io::Result<usize>
         ensures bound { WritesAtMost result bytes.now }
         ensures bytes { WriteAppends (written W.contents self.old) (written W.contents self.new)

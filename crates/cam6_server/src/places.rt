@@ -58,14 +58,16 @@ impl<W: Waiter> Ask for SeatedDesk<W> {
     // A desk may be asked while it doesn't wait, and no longer waits when it has answered.
     ghost is_ready = { λ desk. IsResting desk };
 
-    /// Does a command at the desk, and returns its reply. The waiter waits for the command's steps.
+    /// Does a command at the desk, which waits for no reply, and returns its reply. The waiter
+    /// waits for the command's steps. If an allocation fails, the desk is as it was.
     fn ask(&mut self, command: Command) -> Result<Reply, NoMemory> {
         self.at.ask(command)
     }
 }
 
 impl Places {
-    /// Makes a place for each desk, at which nobody sits. The first desk is that of user 1.
+    /// Makes a place for each desk, at which nobody sits. The desks wait for no reply, and go from
+    /// user 1 on. Fails only if an allocation fails.
     pub fn new(alloc: Global, desks: Vec<Desk>) -> Result<Places, AllocError>
         requires { AreOwnDesks desks.items }
         ensures { IfOk result (λ places. places ≡ map Some desks.items) }
@@ -77,8 +79,9 @@ impl Places {
         Ok(Places { desks: places })
     }
 
-    /// Takes a user's desk from its place. `waiter` waits for the steps of its commands. If
-    /// somebody has the desk or there is no such user, returns the answer that reports that.
+    /// Takes the desk of a user, counted from 1, from its place. `waiter` waits for the steps of
+    /// its commands. Returns `Seating::Taken` as `Err` if somebody has the desk, or `NoUser` if
+    /// there is no such user.
     pub fn take<W: Drop>(&mut self, user: u64, waiter: W) -> Result<SeatedDesk<W>, Seating>
         ensures { Takes self.old user result self.new }
     {
@@ -91,7 +94,8 @@ impl Places {
         }
     }
 
-    /// Puts a desk back at its user's place, so that it can be taken again.
+    /// Puts a desk, which waits for no reply, back at its user's place, so that it can be taken
+    /// again.
     pub fn give_back<W: Drop>(&mut self, desk: SeatedDesk<W>)
         requires { IsResting desk }
         ensures { GivesBack self.old desk self.new }
@@ -104,8 +108,8 @@ impl Places {
     }
 }
 
-/// Takes the desk at a user's place. If it isn't there or there is no such user, returns the answer
-/// that reports that.
+/// Takes the desk at the place of a user, counted from 1. Returns `Taken` as `Err` if it isn't
+/// there, or `NoUser` if there is no such user.
 fn take_from(desks: &mut Vec<Option<Desk>>, user: u64) -> Result<Desk, Seating>
     requires { AreAtTheirPlaces desks.old.items }
     ensures own { AreAtTheirPlaces desks.new.items }
@@ -120,7 +124,8 @@ fn take_from(desks: &mut Vec<Option<Desk>>, user: u64) -> Result<Desk, Seating>
     }
 }
 
-/// Puts a user's desk at its place. If there is no such place, drops it.
+/// Puts the desk of a user, counted from 1, at its place. It waits for no reply. If there is no
+/// such place, drops it.
 fn put_back(desks: &mut Vec<Option<Desk>>, user: u64, desk: Desk)
     requires places { AreAtTheirPlaces desks.old.items }
     requires desk { IsFreeDeskOf user desk }

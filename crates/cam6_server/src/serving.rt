@@ -53,9 +53,9 @@ impl Model for Serving {
 }
 
 impl Serving {
-    /// Makes the settings of a host: so many users, boards and cached tables, and machines up to
-    /// the side `limit`. It ends after `connections` connections, or never for 0. A seated client
-    /// may be silent for `idle` seconds, or without limit for 0.
+    /// Makes the settings of a host: 1 to 32 users, 1 to 8 boards, 1 to 64 cached tables, and
+    /// machines up to the side `limit`. It ends after `connections` connections, or never for 0. A
+    /// seated client may be silent for `idle` seconds, or without limit for 0.
     pub fn new(
         users: usize,
         boards: u8,

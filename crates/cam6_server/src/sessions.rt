@@ -43,7 +43,7 @@ fn serve_and_close<R: Handle>(server: &ServerState<R>, stream: TcpStream) {
 }
 
 /// Serves a connection to its end, and sends what is held back. Returns whether its client then had
-/// a seat, or waited for one. Fails only before anything is read.
+/// a seat, waited for one, or waited with a long first line. Fails only before anything is read.
 fn serve_to_end<'a, R: Handle>(
     server: &'a ServerState<R>,
     stream: &'a TcpStream,
@@ -67,7 +67,8 @@ fn serve_connection<R: Handle>(host: &HostState<R>, link: &Link<'_, R>) -> io::R
 }
 
 /// Whether the socket has to be drained before it is closed, so that unread lines don't cost the
-/// client its last answer.
+/// client its last answer. True after a refusal, and after a session that ran out of memory or
+/// reads.
 fn needs_drain(visit: Visit) -> bool {
     match visit {
         Visit::Refused => true,

@@ -34,7 +34,8 @@ pub struct ServerState<R: Handle> {
 }
 
 impl<R: Handle> ServerState<R> {
-    /// Counts one more client that waits for a seat, or returns false if there is no room for it.
+    /// Counts one more client, as waiting for a seat, and returns true. Returns false and counts
+    /// none if there is no room for it.
     pub fn enter(&self) -> bool {
         self.guests.lock(&self.host.rt).enter()
     }

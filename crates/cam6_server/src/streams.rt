@@ -49,8 +49,8 @@ struct Socket<'a, R: Handle> {
 }
 
 impl<R: Handle> Socket<'_, R> {
-    /// Whether a write that failed with this fault is tried again: it was interrupted, or it has
-    /// waited and `deadline` isn't over.
+    /// Whether a write that failed with this fault is tried again. It is if a signal interrupted
+    /// it, or if it waited in vain and `deadline` has not come.
     fn is_retried(&self, fault: &Error, deadline: Instant) -> bool {
         match fault.kind() {
             ErrorKind::Interrupted => true,
@@ -60,7 +60,7 @@ impl<R: Handle> Socket<'_, R> {
     }
 
     /// Reads and drops bytes until the client has shut its sending side, or has sent 1 MiB. Fails
-    /// if a read fails, or if `deadline` is over before that.
+    /// if a read fails, or if `deadline` comes before that.
     fn drain(mut self, deadline: Instant) -> io::Result<()> {
         let mut bytes = [0; 4_096];
         let mut drained = 0;
@@ -77,7 +77,8 @@ impl<R: Handle> Socket<'_, R> {
 }
 
 impl<R: Handle> Read for Socket<'_, R> {
-    /// Reads bytes, and again if a signal interrupts it. Gives up after 1,000 tries.
+    /// Reads bytes, and returns how many: 0 at the end of the input. Reads again if a signal
+    /// interrupts it. Fails after 1,000 tries.
     fn read(&mut self, bytes: &mut [u8]) -> io::Result<usize> {
         let mut stream = self.stream;
         for _ in 0..TRIES {
@@ -91,8 +92,8 @@ impl<R: Handle> Read for Socket<'_, R> {
 }
 
 impl<R: Handle> Write for Socket<'_, R> {
-    /// Writes bytes, and again if a signal interrupts it, or if the client takes no byte. Gives up
-    /// after a minute, or after 1,000 tries.
+    /// Writes bytes, and returns how many were taken. Tries again if a signal interrupts it, or if
+    /// the client takes no byte. Fails after a minute, or after 1,000 tries.
     fn write(&mut self, bytes: &[u8]) -> io::Result<usize> {
         let mut stream = self.stream;
         let deadline = deadline_in(self.clock, SEND_SECONDS)?;
@@ -123,7 +124,8 @@ pub struct Link<'a, R: Handle> {
 
 impl<'a, R: Handle> Link<'a, R> {
     /// Makes the reader and the outbox of a new connection. From here on the client has ten seconds
-    /// to take a seat. Allocates the buffer of the outbox, and sets how long a write may wait.
+    /// to take a seat. Sets that a write waits for a second at a time. Fails if that, the clock or
+    /// the allocation of the outbox fails.
     pub fn new(
         alloc: Global,
         server: &'a ServerState<R>,
@@ -148,7 +150,7 @@ impl<'a, R: Handle> Link<'a, R> {
         self.terms.standing()
     }
 
-    /// Sends the answers that are held back. Fails if the write fails.
+    /// Sends the answers that are held back. Fails if the write fails, or if it has failed before.
     fn send(&self) -> io::Result<()> {
         match self.outbox.try_borrow_mut() {
             Ok(mut outbox) => outbox.release(),
@@ -157,8 +159,9 @@ impl<'a, R: Handle> Link<'a, R> {
     }
 
     /// Sends the answers that are held back, and shuts the sending side. Then reads and drops what
-    /// the client still sends for a while. A socket that is closed with unread bytes resets the
-    /// connection, and the client may lose its last answer.
+    /// the client still sends, for 2 seconds or 1 MiB at most. A socket that is closed with unread
+    /// bytes resets the connection, and the client may lose its last answer. Fails if one of these
+    /// steps fails.
     pub fn shut_down(&self) -> io::Result<()> {
         self.send()?;
         self.socket.stream.shutdown(Shutdown::Write)?;
@@ -184,8 +187,8 @@ impl<R: Handle> Connection for Link<'_, R> {
 
 /// Reads the bytes of a connection, after it sends what is held back.
 impl<R: Handle> Read for &Link<'_, R> {
-    /// Sends the answers that are held back, and then reads bytes. Fails if either fails, or if the
-    /// client has no time left.
+    /// Sends the answers that are held back, and then reads bytes, and returns how many. Fails if
+    /// either fails, if the client has no time left, or if too many clients hold a long first line.
     fn read(&mut self, bytes: &mut [u8]) -> io::Result<usize> {
         self.send()?;
         let mut socket = self.socket;
@@ -198,8 +201,8 @@ impl<R: Handle> Read for &Link<'_, R> {
 
 /// Writes answers, which are held back.
 impl<R: Handle> Write for &Link<'_, R> {
-    /// Holds bytes back, to be sent later. Sends what is held back if there is no room for more.
-    /// Fails if the outbox is broken.
+    /// Holds bytes back, to be sent later, and returns how many it took. Sends what is held back if
+    /// there is no room for more. Fails if that fails, or if the outbox is broken.
     fn write(&mut self, bytes: &[u8]) -> io::Result<usize> {
         match self.outbox.try_borrow_mut() {
             Ok(mut outbox) => outbox.write(bytes),

@@ -30,7 +30,8 @@ pub struct Terms<'a, R: Handle> {
 }
 
 impl<'a, R: Handle> Terms<'a, R> {
-    /// Makes the limits of a client that has just connected: ten seconds to take a seat.
+    /// Makes the limits of a client that has just connected: ten seconds to take a seat. Fails if
+    /// the clock fails.
     pub fn new(server: &'a ServerState<R>) -> io::Result<Terms<'a, R>> {
         let rt = server.host.rt;
         Ok(Terms {
@@ -57,8 +58,8 @@ impl<'a, R: Handle> Terms<'a, R> {
     }
 
     /// Sets how long the next read of the stream may wait: what is left of ten seconds, or the idle
-    /// time of a seated client. Fails if the ten seconds are over, or if too many clients hold a
-    /// long first line.
+    /// time of a seated client. Fails if the ten seconds are over, if 8 other waiting clients hold
+    /// a long first line, or if it can't be set.
     pub fn allow(&self, stream: &TcpStream) -> io::Result<()> {
         if self.standing.get() == Standing::Seated {
             return self.allow_seated(stream);
@@ -78,8 +79,8 @@ impl<'a, R: Handle> Terms<'a, R> {
         stream.set_read_timeout(self.idle)
     }
 
-    /// Allows a first line that is longer than any line but a load. Fails if 8 waiting clients have
-    /// one already, because the host holds what each has sent.
+    /// Allows a first line of more than 16,384 bytes, as only a load may have. Fails if 8 waiting
+    /// clients have one already, because the host holds what each has sent.
     fn lengthen(&self) -> io::Result<()> {
         if !self.guests.lock(&self.rt).lengthen() {
             return Err(Error::from(ErrorKind::OutOfMemory));
@@ -103,7 +104,7 @@ pub fn deadline_in(clock: &impl Clock, seconds: u64) -> io::Result<Instant> {
     }
 }
 
-/// Returns the time until `deadline`. Fails with `TimedOut` if none is left.
+/// Returns the time until `deadline`. Fails with `TimedOut` if none is left, or if the clock fails.
 pub fn time_left(clock: &impl Clock, deadline: Instant) -> io::Result<Duration> {
     let left = deadline.saturating_duration_since(Instant::now(clock)?);
     if left.is_zero() {

@@ -17,13 +17,14 @@ pub struct Patience<R> {
 }
 
 impl<R: Wait> Patience<R> {
-    /// Makes it of a handle of the runtime.
+    /// Makes it of a handle of the runtime, by which it sleeps.
     pub fn new(rt: R) -> Patience<R> {
         Patience { rt }
     }
 
-    /// Waits for the reply to the command that was put, and returns it. `_rung` and `_released`
-    /// prove that the gate was rung, and that the connection sent what it held back.
+    /// Waits for the reply to the command that was put at the desk, and returns it. The desk has to
+    /// wait for one. `_rung` and `_released` prove that the gate was rung, and that the connection
+    /// sent what it held back.
     pub fn wait(&self, desk: &mut Desk, _rung: Rung, _released: Released) -> Reply
         requires { is_waiting desk.old ≡ true }
         ensures { CollectGives desk.old (Some result) desk.new }
