@@ -17,7 +17,8 @@ pub enum Slip {
 }
 
 /// Returns the slip that the user made in refused words, such as an option before its subcommand.
-/// Returns `None` if there is none that is known. The first word is the program's name.
+/// Returns `None` if there is none that is known. The first word is the program's name, and only
+/// the two after it count.
 pub fn slip_of(words: &[String]) -> Option<Slip>
     ensures { result ≡ slip (map string_bytes words.now) }
 {
@@ -28,7 +29,8 @@ pub fn slip_of(words: &[String]) -> Option<Slip>
     }
 }
 
-/// Returns the slip in the first two words after the program's name, or `None` if there is none.
+/// Returns the slip in the first two words after the program's name, `word` and `next`, or `None`
+/// if there is none.
 fn slip_at_two(word: &str, next: &str) -> Option<Slip>
     ensures { result ≡ slip_at_two word.now next.now }
 {
@@ -64,14 +66,16 @@ fn begins(option: &str, word: &str) -> bool
     word.as_bytes().starts_with(option.as_bytes())
 }
 
-/// Whether the word begins with `--users`, `--boards` or `--cache`.
+/// Whether the word begins with an option that only `replay` and `serve` have: `--users`,
+/// `--boards` or `--cache`.
 fn is_of_sharing(word: &str) -> bool
     ensures { result ≡ is_of_sharing word.now }
 {
     begins("--users", word) || begins("--boards", word) || begins("--cache", word)
 }
 
-/// Whether the word begins with `--port`, `--connections` or `--idle`.
+/// Whether the word begins with an option that only `serve` has: `--port`, `--connections` or
+/// `--idle`.
 fn is_of_serving(word: &str) -> bool
     ensures { result ≡ is_of_serving word.now }
 {
@@ -92,7 +96,7 @@ fn reads_lines(word: &str) -> bool
     word == "alone" || word == "replay"
 }
 
-/// Whether the word is a mode, or `help`.
+/// Whether the word is a mode, that is `alone`, `replay` or `serve`, or is `help`.
 fn is_mode(word: &str) -> bool
     ensures { result ≡ is_mode word.now }
 {
@@ -100,7 +104,7 @@ fn is_mode(word: &str) -> bool
 }
 
 /// Returns the hint about a slip, which is printed after the reason why the words are refused. It
-/// is empty if there is no slip.
+/// begins and ends with an LF. It is empty if there is no slip.
 pub fn hint_of(slip: Option<Slip>) -> &'static str
     ensures { result.now ≡ told_of slip }
 {

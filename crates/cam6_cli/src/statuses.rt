@@ -13,8 +13,8 @@ pub const TURN_BOUND_REACHED: u8 = 6;
 /// A thread for a board could not be started.
 pub const NO_THREAD: u8 = 8;
 
-/// Returns the exit status of a session that failed, with its line for standard error. Returns
-/// `None` if all lines were answered.
+/// Returns the exit status of a session that failed, with its line, LF included, for standard
+/// error. Returns `None` if all lines were answered.
 pub fn failure_of(end: End) -> Option<(u8, &'static str)>
     ensures { option_map (λ f. (f.0, f.1.now)) result ≡ failure end }
 {
@@ -27,7 +27,8 @@ pub fn failure_of(end: End) -> Option<(u8, &'static str)>
     }
 }
 
-/// Returns the exit status of a host that can't go on, with its line for standard error.
+/// Returns the exit status of a host that can't go on, with its line, LF included, for standard
+/// error.
 pub fn fault_of(fault: Fault) -> (u8, &'static str)
     ensures { (result.0, result.1.now) ≡ fault_told fault }
 {

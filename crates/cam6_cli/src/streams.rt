@@ -16,9 +16,9 @@ use std::io::{BufRead, Write};
 /// Reads of one session at most, that is calls of `fill_buf`.
 const READS: u64 = 1_099_511_627_776;
 
-/// Makes a blank machine of this limit. It does the command of each line of the reader, and answers
-/// it by one line. A line without a command is answered by its fault. Ends if the input ends or
-/// something fails, and returns which.
+/// Makes a blank machine whose largest side is `limit`. It does the command of each line of the
+/// reader, and answers it by one line. A line without a command is answered by its fault. Ends if
+/// the input ends, something fails, or 2 to the power of 40 reads are done. Returns which.
 pub fn serve_streams<R: BufRead, W: Write>(
     alloc: Global,
     limit: Side,
@@ -37,8 +37,9 @@ pub fn serve_streams<R: BufRead, W: Write>(
     serve_alone(alloc, limit, reader, writer, READS)
 }
 
-/// Does the event of each line of the reader, and writes its outcome as one line. `sharing` has the
-/// numbers of users, boards and cached tables. Each user begins with a blank machine of this limit.
+/// Does the event of each line of the reader, and writes its outcome, or the line's fault, as one
+/// line. `sharing` has the numbers of users, boards and cached tables. Each user begins with a
+/// blank machine whose largest side is `limit`. Returns how it ended.
 pub fn replay_streams<R: BufRead, W: Write>(
     alloc: Global,
     sharing: Sharing,
@@ -62,7 +63,8 @@ pub fn replay_streams<R: BufRead, W: Write>(
     replay(alloc, reader, writer, &mut core, READS)
 }
 
-/// Makes a core for `sharing`. Each user has a blank machine of this limit.
+/// Makes a core for `sharing`. Each user has a blank machine whose largest side is `limit`. Fails
+/// only if an allocation fails.
 fn new_core(alloc: Global, sharing: Sharing, limit: Side) -> Result<Core, NoMemory>
     ensures { IfOk result (λ core. IsNew sharing limit core) }
 {

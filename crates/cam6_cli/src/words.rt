@@ -84,8 +84,9 @@ A session to try, with one command, which lists the rules:
   cam6 serve &
   printf '{\"seat\":1}\\n{\"do\":\"rules\"}\\n' | nc -N 127.0.0.1 6006";
 
-/// Returns what the words of the command line ask for: the mode and its settings. If they are
-/// refused, returns why. The first word is the program's name.
+/// Returns what the words of the command line ask for: the mode and its settings. The first word is
+/// the program's name. Else returns why they are refused: they ask for help, clap refuses them, or
+/// an allocation fails.
 pub fn options(alloc: Global, words: &[String]) -> Result<Options, Refused>
     // For a simple command, clap's matches and the kinds of its errors are functions of the words.
     ensures mode { IfOk result (λ options. (app : App) × IsProgram app
@@ -106,8 +107,8 @@ pub fn options(alloc: Global, words: &[String]) -> Result<Options, Refused>
     }
 }
 
-/// Returns what the program is to do, from clap's matches. Without a subcommand it is `alone` at
-/// side 256.
+/// Returns what the program is to do, from clap's matches of the whole command line, which clap has
+/// accepted. Without a subcommand it is `alone` at side 256.
 fn mode_options(matches: &ArgMatches<'_>) -> Options
     requires { IsSome (mode_of (subcommand_rows_of matches.now)) }
     ensures { HasMode result (mode_of (subcommand_rows_of matches.now)) }
@@ -126,7 +127,7 @@ fn mode_options(matches: &ArgMatches<'_>) -> Options
     Options::Alone { limit: Side::S256 }
 }
 
-/// Returns what `replay` is to do, from the matches of its options.
+/// Returns what `replay` is to do, from the matches of its options, which clap has accepted.
 fn replay_options(matches: &ArgMatches<'_>) -> Options
     requires { IsSome (shared_at (rows_of (found_of matches.now))) }
     ensures { HasMode result (shared_at (rows_of (found_of matches.now))) }
@@ -141,7 +142,7 @@ fn replay_options(matches: &ArgMatches<'_>) -> Options
     }
 }
 
-/// Returns what `serve` is to do, from the matches of its options.
+/// Returns what `serve` is to do, from the matches of its options, which clap has accepted.
 fn serve_options(matches: &ArgMatches<'_>) -> Options
     requires { IsSome (served_at (rows_of (found_of matches.now))) }
     ensures { HasMode result (served_at (rows_of (found_of matches.now))) }
@@ -159,8 +160,8 @@ fn serve_options(matches: &ArgMatches<'_>) -> Options
     }
 }
 
-/// Returns the side at `--side`, the largest that a machine may have. It has to be one of the three
-/// sides.
+/// Returns the side at `--side`, the largest that a machine may have. The option must be there, and
+/// have one of the three sides.
 fn side_given(matches: &ArgMatches<'_>) -> Side
     requires { IsSome (side_told (rows_of (found_of matches.now))) }
     ensures { side_told (rows_of (found_of matches.now)) ≡ Some result }
@@ -171,7 +172,8 @@ fn side_given(matches: &ArgMatches<'_>) -> Side
     side
 }
 
-/// Returns the number at an option. It has to be from `least` to `most`.
+/// Returns the number at the option `--name`. It must be there, and from `least` to `most`, both
+/// included.
 fn number_given(matches: &ArgMatches<'_>, name: &str, least: u64, most: u64) -> u64
     requires { IsSome (number_told name.now least most (rows_of (found_of matches.now))) }
     ensures number { number_told name.now least most (rows_of (found_of matches.now))
@@ -184,7 +186,8 @@ fn number_given(matches: &ArgMatches<'_>, name: &str, least: u64, most: u64) -> 
     number
 }
 
-/// Makes the program's command line for clap: its subcommands and their options.
+/// Makes the program's command line for clap: its subcommands and their options. Fails only if an
+/// allocation fails.
 pub fn program<'a>(alloc: Global) -> Result<Command<'a>, AllocError>
     ensures { IfOk result (λ command. IsProgram (app_of command)) }
 {
@@ -232,7 +235,7 @@ fn serve<'a>(alloc: Global) -> Result<Command<'a>, AllocError>
         .arg(side_option(alloc, SIDE_TEXT))
 }
 
-/// Makes `--users`, the number of users, 4 by default.
+/// Makes `--users`, the number of users, from 1 to 32. It is 4 by default.
 fn users_option<'a>(alloc: Global) -> Arg<'a>
     ensures rule { rule_of result ≡ option_of_users }
     ensures global { result.global ≡ false }
@@ -240,7 +243,7 @@ fn users_option<'a>(alloc: Global) -> Arg<'a>
     number_option(alloc, "users", 1, MAX_USERS as u64, "4").help("Users, each with a machine")
 }
 
-/// Makes `--boards`, the number of boards, 2 by default.
+/// Makes `--boards`, the number of boards, from 1 to 8. It is 2 by default.
 fn boards_option<'a>(alloc: Global) -> Arg<'a>
     ensures rule { rule_of result ≡ option_of_boards }
     ensures global { result.global ≡ false }
@@ -248,7 +251,8 @@ fn boards_option<'a>(alloc: Global) -> Arg<'a>
     number_option(alloc, "boards", 1, MAX_BOARDS as u64, "2").help("Boards that users share")
 }
 
-/// Makes `--cache`, the number of tables that are cached, 16 by default.
+/// Makes `--cache`, the number of tables that are cached at most, from 1 to 64. It is 16 by
+/// default.
 fn cache_option<'a>(alloc: Global) -> Arg<'a>
     ensures rule { rule_of result ≡ option_of_tables }
     ensures global { result.global ≡ false }
@@ -258,7 +262,7 @@ fn cache_option<'a>(alloc: Global) -> Arg<'a>
     )
 }
 
-/// Makes `--port`, the port of 127.0.0.1, 6006 by default.
+/// Makes `--port`, the port of 127.0.0.1, from 1 to 65,535. It is 6006 by default.
 fn port_option<'a>(alloc: Global) -> Arg<'a>
     ensures rule { rule_of result ≡ option_of_ports }
     ensures global { result.global ≡ false }
