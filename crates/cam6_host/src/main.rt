@@ -44,7 +44,8 @@ fn main(rt: HostRuntime) -> ExitCode {
 }
 
 /// Reads the arguments, and does what they ask for. The closure `served` serves users over a
-/// network. Returns the exit status.
+/// network, with these settings and at this port. Returns the exit status. Prints help, or why the
+/// arguments are refused.
 fn run<R: Env + Input + Print + Eprint + AllocGlobal, F: Fn(Serving, u16) -> ExitCode>(
     rt: &R,
     served: &F,
@@ -64,7 +65,8 @@ where
     }
 }
 
-/// Reads the arguments. Returns what they ask for, or why they are refused.
+/// Reads the arguments. Returns what they ask for, or why they are refused: also for help, or if an
+/// allocation fails.
 fn options_given<R: Env + AllocGlobal>(rt: &R) -> Result<Options, Refused> {
     let words = read_arguments(rt, Program::Cam6)?;
     options(rt.alloc(), words.as_slice())
@@ -78,8 +80,9 @@ fn greet(rt: &impl Eprint, input: &impl IsTerminal, text: &str) {
     }
 }
 
-/// Does the commands of standard input on one machine, and writes a reply for each to standard
-/// output. Returns the exit status.
+/// Does the commands of standard input on one blank machine whose largest side is `limit`, and
+/// writes a reply for each to standard output. Returns the exit status, and prints why if it isn't
+/// 0.
 fn serve_one_machine<R: Input + Print + Eprint + AllocGlobal>(rt: &R, limit: Side) -> ExitCode
 where
     R::Reader: IsTerminal,
@@ -93,8 +96,9 @@ where
     end_session(rt, end)
 }
 
-/// Does the events of standard input, and writes an outcome for each to standard output. Returns
-/// the exit status.
+/// Does the events of standard input, and writes an outcome for each to standard output. Each user
+/// has a blank machine whose largest side is `limit`. Returns the exit status, and prints why if it
+/// isn't 0.
 fn replay_events<R: Input + Print + Eprint + AllocGlobal>(
     rt: &R,
     sharing: Sharing,
@@ -112,7 +116,8 @@ where
     end_session(rt, end)
 }
 
-/// Serves users over connections to a port of the address 127.0.0.1. Returns the exit status.
+/// Serves users over connections to this port of the address 127.0.0.1. Returns the exit status,
+/// and prints why if it isn't 0.
 fn serve_over_network<
     R: Handle + Net<Listener = TcpListener, Stream = TcpStream> + Eprint + Send + Sync + 'static,
 >(rt: R, serving: Serving, port: u16) -> ExitCode {
