@@ -50,7 +50,7 @@ impl Lease {
     ghost use Rattle.cam6_block.specs.RuleTables.{IsTableBy};
 
     /// Makes the lease of steps that a board does. `rows` of the step under way are done: whole
-    /// bands of 16, and fewer than all. It is 0 if no step is left. Boards are numbered from 0.
+    /// bands of 16, and fewer than all. `rows` is 0 if no step is left. Boards are numbered from 0.
     pub(crate) fn new(work: Work, rows: u16, board: u8) -> Lease
         requires rows { rows < width work.home }
         requires bands { rows % band ≡ 0 }

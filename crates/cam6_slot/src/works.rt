@@ -119,7 +119,7 @@ impl Work {
     }
 
     /// Returns how many bands of 16 rows are left of all steps, if `rows` rows of the next step are
-    /// done. There are fewer than the side, and 0 if no step is left.
+    /// done. `rows` is below the side, and 0 if no step is left.
     pub(crate) fn left(&self, rows: u16) -> u64
         requires rows { rows < width self.now.home }
         requires step { 0 < rows → self.now.reached.steps < self.now.total }
