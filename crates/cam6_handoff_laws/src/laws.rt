@@ -81,7 +81,8 @@ pub fn an_execution_is_a_list_of_events()
     ensures law { ExecutionIsEvents }
 {}
 
-/// Each desk gives the replies of a private machine to the commands that were put at the desk.
+/// Each desk gives a private machine's replies to the commands that were put at the desk, in order.
+/// Only the reply to the last one is missing while its user waits.
 pub fn desks_give_the_replies()
     ensures law { DesksGiveTheReplies }
 {}
