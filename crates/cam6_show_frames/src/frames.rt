@@ -33,7 +33,8 @@ impl Model for RowInColours {
 }
 
 impl RowInColours {
-    /// Makes a row of as many columns as the side has, with the first of these colours.
+    /// Makes a row of as many columns as the side has, with the first of these colours. Each of
+    /// those is less than 16.
     pub(crate) fn new(side: Side, colours: [u8; COLUMNS]) -> RowInColours
         requires { IsRowOf side (take (side_number side) colours) }
         ensures { result ≡ take (side_number side) colours }
@@ -111,7 +112,7 @@ pub(crate) fn frame_of_rows(rows: Vec<RowInColours>) -> Option<Frame>
     Some(Frame::new(rows))
 }
 
-/// Returns whether each row has `columns` columns.
+/// Returns whether each row has `columns` columns. It is true if there are no rows.
 fn are_long(columns: usize, rows: &[RowInColours]) -> bool
     ensures long { result ≡ are_long columns rows.now }
     ensures rows { OnTrue result (All (λ row. (length row ≡ columns)

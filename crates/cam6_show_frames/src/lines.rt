@@ -19,7 +19,7 @@ pub(crate) enum Reading {
 }
 
 /// Reads the next line into the vector, without its LF, in place of what is there. The last line
-/// may have no LF.
+/// may have no LF. Returns what was read. On a fault the vector may have a part of the line.
 pub(crate) fn read_line<R: BufRead>(reader: &mut R, line: &mut Vec<u8>) -> Reading
     ensures { Reads result (R.remaining reader.old) (R.remaining reader.new) line.new.items }
 {

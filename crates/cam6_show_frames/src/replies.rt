@@ -34,7 +34,8 @@ pub enum Unsaid {
 }
 
 /// Reads the line of a reply. Returns its row of cells, its plane, or `Other` if it has neither.
-/// Returns an error if the line is no reply, or if an allocation fails.
+/// Returns `NoReply` if the line isn't JSON, if the reply is no object, or if its row or plane is
+/// malformed. Returns `NoMemory` if an allocation fails.
 #[tactic(auto, using(crate::proofs::Saying::said_by_value, crate::proofs::Saying::not_empty))]
 pub fn read_reply(alloc: Global, line: &[u8]) -> Result<ReplyCells, Unsaid>
     ensures said { IfOk result (λ reply. said line.now ≡ Some reply) }
@@ -46,8 +47,8 @@ pub fn read_reply(alloc: Global, line: &[u8]) -> Result<ReplyCells, Unsaid>
     parse_reply(alloc, &value)
 }
 
-/// Returns the cells that a reply's JSON value has, or `Other`. Returns an error if the value is no
-/// reply, or if an allocation fails.
+/// Returns the cells that a reply's JSON value has, or `Other`. Returns `NoReply` if the reply is
+/// no object, or if its row or plane is malformed. Returns `NoMemory` if an allocation fails.
 fn parse_reply(alloc: Global, value: &Value) -> Result<ReplyCells, Unsaid>
     ensures said { IfOk result (λ reply. said_in (view value.now) ≡ Some reply) }
     ensures no_reply { result ≡ Err NoReply → said_in (view value.now) ≡ None }
@@ -59,7 +60,8 @@ fn parse_reply(alloc: Global, value: &Value) -> Result<ReplyCells, Unsaid>
     }
 }
 
-/// Parses a line as a JSON value. Returns `NoReply` if it is none.
+/// Parses a line as a JSON value. Returns `NoReply` if it is none, and `NoMemory` if an allocation
+/// fails.
 fn line_value(alloc: Global, line: &[u8]) -> Result<Value, Unsaid>
     ensures value { IfOk result (λ value. value_of line.now ≡ Some (view value)) }
     ensures no_reply { result ≡ Err NoReply → value_of line.now ≡ None }
@@ -75,7 +77,7 @@ fn line_value(alloc: Global, line: &[u8]) -> Result<Value, Unsaid>
 }
 
 /// Returns the cells of the reply at the value's key `reply`, or of the value itself if it has no
-/// such key. Returns `None` if that is no reply.
+/// such key. Returns `None` if that is no object, or if its row or plane is malformed.
 fn said_in(alloc: Global, value: &Value) -> Result<Option<ReplyCells>, AllocError>
     ensures { IfOk result (λ reply. reply ≡ said_in (view value.now)) }
 {
@@ -111,7 +113,8 @@ fn by_word(alloc: Global, word: &str, value: &Value) -> Result<Option<ReplyCells
     }
 }
 
-/// Returns the row of a `colours` reply, or `None` if its text isn't the digits of a row.
+/// Returns the row at the key `colours` of a reply. Returns `None` if no text is there, or if it
+/// isn't the digits of a row.
 fn colours_in(value: &Value) -> Option<ReplyCells>
     ensures { result ≡ colours_in (view value.now) }
 {
@@ -120,7 +123,8 @@ fn colours_in(value: &Value) -> Option<ReplyCells>
     Some(ReplyCells::Colours(row))
 }
 
-/// Returns the frame of a `plane` reply, or `None` if its texts aren't the digits of a plane.
+/// Returns the frame at the key `rows` of a reply. Returns `None` if that isn't an array of texts,
+/// each with a row's digits, for as many rows as columns.
 fn plane_in(alloc: Global, value: &Value) -> Result<Option<ReplyCells>, AllocError>
     ensures { IfOk result (λ reply. reply ≡ plane_in (view value.now)) }
 {
@@ -133,8 +137,8 @@ fn plane_in(alloc: Global, value: &Value) -> Result<Option<ReplyCells>, AllocErr
     }
 }
 
-/// Returns the frame of these rows as the cells of a reply, or `None` if they aren't the rows of a
-/// torus.
+/// Returns the frame of these rows as the cells of a reply. Returns `None` unless there are as many
+/// rows as each has columns, and that is the number of a side.
 fn plane_of_rows(rows: Vec<RowInColours>) -> Option<ReplyCells>
     ensures { result ≡ option_map ReplyCells.Plane (frame_of_rows rows.items) }
 {
@@ -142,7 +146,8 @@ fn plane_of_rows(rows: Vec<RowInColours>) -> Option<ReplyCells>
     Some(ReplyCells::Plane(frame))
 }
 
-/// Returns the text at a key of an object, or `None` if no text is there.
+/// Returns the text at a key of an object. Returns `None` if no text is there, or if the value is
+/// no object.
 fn text_at<'a>(value: &'a Value, key: &str) -> Option<&'a str>
     ensures { option_map (λ text. text.now) result ≡ text_at key.now (view value.now) }
 {

@@ -21,7 +21,8 @@ pub(crate) fn colours_of_text(text: &[u8]) -> Option<RowInColours>
     Some(row_of_digits(side, digits))
 }
 
-/// Makes the row of this side whose colours are the digits of these bytes, two to a byte.
+/// Makes the row of this side whose colours are the digits of these bytes. A byte has two digits,
+/// the first in its upper four bits. There is one byte for every two columns.
 fn row_of_digits(side: Side, bytes: &[u8]) -> RowInColours
     requires { length bytes.now ≡ side_number side / 2 }
     ensures { result ≡ map (digit_column bytes.now) (range_with_len 0 (side_number side)) }
@@ -33,7 +34,8 @@ fn row_of_digits(side: Side, bytes: &[u8]) -> RowInColours
     RowInColours::new(side, colours)
 }
 
-/// Returns the colour of column `x`. A byte has two colours, the first in its upper four bits.
+/// Returns the colour of column `x`, which lies within the bytes. A byte has two colours, the first
+/// in its upper four bits.
 fn digit_column(bytes: &[u8], x: usize) -> u8
     requires { x / 2 < length bytes.now }
     ensures digit { result ≡ digit_column bytes.now x }
@@ -44,7 +46,8 @@ fn digit_column(bytes: &[u8], x: usize) -> u8
 }
 
 /// Returns the row of one plane that a text has, four columns to a hexadecimal digit of either
-/// case. The row's colours are 0 and 1. Returns `None` if the text is no such row.
+/// case. A digit's highest bit is its first column. The row's colours are 0 and 1. Returns `None`
+/// for any other text, or if no torus has so many columns.
 pub(crate) fn bits_of_text(text: &[u8]) -> Option<RowInColours>
     ensures { result ≡ bits_of_text text.now }
 {
@@ -55,7 +58,7 @@ pub(crate) fn bits_of_text(text: &[u8]) -> Option<RowInColours>
 }
 
 /// Makes the row of this side that has the colour 1 where a bit of these bytes is set, and 0
-/// elsewhere.
+/// elsewhere. There are eight columns to a byte, and its highest bit is the first of them.
 fn row_of_bits(side: Side, bytes: &[u8]) -> RowInColours
     requires { 8 * length bytes.now ≡ side_number side }
     ensures { result ≡ map (λ x. bit_number (byte_column bytes.now x))
@@ -68,7 +71,8 @@ fn row_of_bits(side: Side, bytes: &[u8]) -> RowInColours
     RowInColours::new(side, colours)
 }
 
-/// Returns 1 if the bit of column `x` is set, or else 0. A byte's highest bit is its first column.
+/// Returns 1 if the bit of column `x`, which lies within the bytes, is set, or else 0. A byte's
+/// highest bit is its first column.
 fn bit_column(bytes: &[u8], x: usize) -> u8
     requires { x / 8 < length bytes.now }
     ensures bit { result ≡ bit_number (byte_column bytes.now x) }

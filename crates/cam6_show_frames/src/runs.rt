@@ -55,8 +55,10 @@ impl Run {
         self.rows.is_empty()
     }
 
-    /// Adds the cells of a reply, and returns the frame that they complete, if they do. Returns
-    /// `BreaksOff` if they can't follow the rows of an unfinished frame. On an error the rows stay.
+    /// Adds the cells of a reply, and returns the frame that they complete, if they do. A plane is
+    /// a frame at once. If rows of an unfinished frame are there, returns `BreaksOff` for all cells
+    /// but a row of their length. Returns `NoMemory` if an allocation fails. On an error the rows
+    /// stay.
     pub fn take(&mut self, alloc: Global, said: ReplyCells) -> Result<Option<Frame>, Untaken>
         ensures ok { IfOk result (λ frame. taken self.old said
             ≡ Some (record { rows = self.new; frame = frame })) }
@@ -73,7 +75,8 @@ impl Run {
 }
 
 /// Adds a row to those of an unfinished frame. If the frame has as many rows as columns now,
-/// returns it, and leaves no rows. Returns `BreaksOff` if the row's length differs.
+/// returns it, and leaves no rows. Returns `BreaksOff` if the row's length differs, and `NoMemory`
+/// if an allocation fails. On an error the rows stay.
 fn add_row(
     alloc: Global,
     rows: &mut Vec<RowInColours>,

@@ -58,7 +58,8 @@ pub trait Screen {
         ensures stays { picture self.new ≡ picture self.old };
 }
 
-/// Reads all lines of replies, and shows their frames on the screen. Returns how this ends.
+/// Reads all lines of replies, and shows their frames on the screen. Stops at the first line that
+/// is no reply, that breaks a frame off, or at which something fails. Returns how this ends.
 pub fn show_frames<R: BufRead, S: Screen>(alloc: Global, reader: &mut R, screen: &mut S) -> End
     ensures shown { ShowsFrames (S.picture screen.old) result (R.remaining reader.old)
         (S.contents screen.old) (S.contents screen.new) }

@@ -5,8 +5,8 @@ use crate::showing::Unshown;
 use cam6_writing::write_bytes as write_whole;
 use std::io::Write;
 
-/// Writes all bytes, in as many calls of the writer as it takes. A call that takes no byte is a
-/// fault.
+/// Writes all bytes, in as many calls of the writer as it takes. Returns `WriteFault` if a call
+/// fails or takes no byte. A part of the bytes from their beginning may then have been written.
 pub fn write_bytes<W: Write>(writer: &mut W, bytes: &[u8]) -> Result<(), Unshown>
     ensures { WritesFront result (W.contents writer.old) (W.contents writer.new) bytes.now }
 {
