@@ -102,7 +102,8 @@ impl Look {
     }
 
     /// Returns the light of the cell that pixel (i, j) shows. Column i is counted from the left and
-    /// row j from the top, both from 0.
+    /// row j from the top, both from 0, and both are less than 8,192. Pixels past the last go on
+    /// round the torus.
     pub fn light(&self, frame: &Frame, i: usize, j: usize) -> Light
         requires column { i < most_pixels }
         requires row { j < most_pixels }

@@ -24,7 +24,7 @@ pub struct Netpbm<W> {
 impl<W: Write> Netpbm<W> {
     ghost use Rattle.std.specs.Prelude.{◌≡◌};
 
-    /// Makes a screen that writes frames with this look as PPM pictures.
+    /// Makes a screen that writes each frame with this look to the writer, as a binary PPM picture.
     pub fn new(alloc: Global, writer: W, look: Look) -> Netpbm<W>
         ensures writer { result.writer ≡ writer }
         ensures look { result.look ≡ look }
@@ -52,7 +52,7 @@ impl<W: Write> Screen for Netpbm<W> {
     }
 }
 
-/// Writes the PPM picture of a frame. Uses the vector as scratch for each row of pixels.
+/// Writes the binary PPM picture of a frame. Uses the vector as scratch for each row of pixels.
 fn write_picture<W: Write>(
     writer: &mut W,
     pixels: &mut Vec<u8>,
@@ -70,14 +70,16 @@ fn write_picture<W: Write>(
     write_rows(writer, pixels, look, frame)
 }
 
-/// Returns the text of a PPM picture before its pixels.
+/// Returns the text of a binary PPM picture before its pixels: `P6`, its width and height in
+/// pixels, and 255. Each of the three lines ends with an LF.
 fn header(alloc: Global, width: usize, height: usize) -> Result<String, AllocError>
     ensures { IfOk result (λ text. string_bytes text ≡ header_of width height) }
 {
     format!(in alloc; "P6\n{width} {height}\n255\n")
 }
 
-/// Writes all rows of a frame's pixels. Uses the vector as scratch for each of them.
+/// Writes all rows of a frame's pixels, from the top, three bytes to a pixel. Uses the vector as
+/// scratch for each of them.
 fn write_rows<W: Write>(
     writer: &mut W,
     pixels: &mut Vec<u8>,
@@ -98,7 +100,7 @@ fn write_rows<W: Write>(
 }
 
 /// Makes row `j` of a frame's pixels, counted from 0 and from the top, in place of what is in the
-/// vector.
+/// vector. `j` is less than 8,192.
 fn pixel_row(pixels: &mut Vec<u8>, look: &Look, frame: &Frame, j: usize) -> Result<(), AllocError>
     requires row { j < most_pixels }
     ensures { IfOk result (λ _. pixels.new.items ≡ pixel_row_of look.now frame.now j) }

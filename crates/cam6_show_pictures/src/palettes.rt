@@ -91,7 +91,8 @@ pub const PALETTE: [Light; 16] = [
 ];
 
 /// Returns the lights of the colours 0 to 15 that an argument has: sixteen groups of six
-/// hexadecimal digits, with commas between them. Returns `None` for any other word.
+/// hexadecimal digits `RRGGBB`, of either case, with one comma between them. Returns `None` for any
+/// other word.
 pub fn palette_of(word: &str) -> Option<[Light; 16]>
     ensures { result ≡ palette_said word.now }
 {
@@ -116,8 +117,8 @@ fn lights_of(text: &[u8]) -> Option<[Light; 16]>
     Some(palette)
 }
 
-/// Returns the light of colour `n` in the text of a palette. Returns `None` if six hexadecimal
-/// digits don't stand there, or if no comma stands before them.
+/// Returns the light of colour `n`, from 0 to 15, in the 111 bytes of a palette's text. Returns
+/// `None` if six hexadecimal digits don't stand there, or if no comma stands before them.
 fn light_at(text: &[u8], n: usize) -> Option<Light>
     requires colour { n < 16 }
     requires word { length text.now ≡ 111 }
@@ -130,8 +131,8 @@ fn light_at(text: &[u8], n: usize) -> Option<Light>
     }
 }
 
-/// Returns whether a comma stands before the light of colour `n` in the text of a palette. It is
-/// true for the first light, which needs none.
+/// Returns whether a comma stands before the light of colour `n`, from 0 to 15, in the 111 bytes of
+/// a palette's text. It is true for the first light, which needs none.
 fn is_parted(text: &[u8], n: usize) -> bool
     requires colour { n < 16 }
     requires word { length text.now ≡ 111 }
@@ -140,7 +141,8 @@ fn is_parted(text: &[u8], n: usize) -> bool
     n == 0 || text[7 * n - 1] == b','
 }
 
-/// Returns the light of six hexadecimal digits, or `None` for any other bytes.
+/// Returns the light of six hexadecimal digits of either case: two each for red, green and blue.
+/// Returns `None` for any other bytes.
 fn light_of(digits: &[u8]) -> Option<Light>
     ensures { result ≡ light_said digits.now }
 {

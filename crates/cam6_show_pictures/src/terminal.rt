@@ -34,7 +34,7 @@ impl<C: Clock, W: Write> Terminal<C, W> {
     ghost use Rattle.std.specs.Prelude.{◌≡◌};
 
     /// Makes a screen that writes frames with this look to a terminal. Each picture stays at least
-    /// for the pause, by the clock. Without a pause the next one may follow at once.
+    /// for the pause, by the clock. If `pause` is `None`, the next one may follow at once.
     pub fn new(
         alloc: Global,
         clock: C,
@@ -66,7 +66,7 @@ impl<C: Clock, W: Write> Screen for Terminal<C, W> {
 
     ghost contents = { λ s. W.contents s.writer };
 
-    /// Writes the frame over the one before, and then pauses if there is a pause.
+    /// Writes the frame over the one before, and then sleeps for the pause, if there is one.
     fn show(&mut self, frame: &Frame) -> Result<(), Unshown> {
         write_picture(&mut self.writer, &mut self.line, &self.look, frame)?;
         if let Some(pause) = self.pause {
@@ -76,7 +76,8 @@ impl<C: Clock, W: Write> Screen for Terminal<C, W> {
     }
 }
 
-/// Writes the terminal picture of a frame. Uses the vector as scratch for each line of characters.
+/// Writes the terminal picture of a frame, from the terminal's upper left corner, and clears the
+/// rest below it. Uses the vector as scratch for each line of characters.
 fn write_picture<W: Write>(
     writer: &mut W,
     line: &mut Vec<u8>,
@@ -91,8 +92,8 @@ fn write_picture<W: Write>(
     write_bytes(writer, b"\x1b[J")
 }
 
-/// Writes all lines of characters of a frame's picture. Uses the vector as scratch for each of
-/// them.
+/// Writes all lines of characters of a frame's picture, one for every two rows of pixels. Uses the
+/// vector as scratch for each of them.
 fn write_lines<W: Write>(
     writer: &mut W,
     line: &mut Vec<u8>,
@@ -113,7 +114,7 @@ fn write_lines<W: Write>(
 }
 
 /// Makes line `k` of characters, counted from 0, and its LF, in place of what is in the vector. The
-/// line shows the pixels of the rows 2k and 2k + 1.
+/// line shows the pixels of the rows 2k and 2k + 1. `k` is less than 4,096.
 fn character_line(
     line: &mut Vec<u8>,
     look: &Look,
@@ -131,7 +132,7 @@ fn character_line(
 }
 
 /// Pushes a character after the escape sequences for its two colours. They show the pixels at
-/// column `i` of the rows 2k and 2k + 1.
+/// column `i` of the rows 2k and 2k + 1. `i` is less than 8,192, and `k` less than 4,096.
 fn push_character(
     line: &mut Vec<u8>,
     look: &Look,
@@ -149,8 +150,8 @@ fn push_character(
     line.extend_from_slice(UPPER_HALF)
 }
 
-/// Pushes the escape sequence for the colour behind a character. That is the colour of the pixel at
-/// column `i` of row `j`, or the terminal's own if the picture has no row `j`.
+/// Pushes the escape sequence for a character's background. That is the colour of the pixel at
+/// column `i`, less than 8,192, of row `j`. It is the terminal's own if the picture has no row `j`.
 fn push_background(
     line: &mut Vec<u8>,
     look: &Look,
@@ -200,7 +201,8 @@ fn hue(light: Light) -> u8
     16 + 36 * step_of(light.red) + 6 * step_of(light.green) + step_of(light.blue)
 }
 
-/// Returns the level from 0 to 5 of one of a light's amounts.
+/// Returns the level from 0 to 5 of one of a light's amounts: 0 below 48, 1 below 115, and then one
+/// more for every 40.
 fn step_of(amount: u8) -> u8
     ensures step { result ≡ step_told amount }
     ensures few { result ≤ 5 }
