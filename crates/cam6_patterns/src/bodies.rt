@@ -57,7 +57,7 @@ impl Cells {
     ghost use Rattle.cam6_patterns.specs.Body.{whole_line_read};
     ghost use Rattle.cam6_patterns.specs.Outcome.{StepsTo};
 
-    /// Makes the cells of which nothing is read yet.
+    /// Makes the cells of which nothing is read yet: no row, no cell and no count.
     pub(crate) fn new(alloc: Global) -> Cells
         ensures { result ≡ nothing_read }
     {
@@ -80,9 +80,9 @@ impl Cells {
         Ok(rows)
     }
 
-    /// Reads a line of cells, whose number is `line`, counted from 1. The line's end counts as a
-    /// blank. Returns `Over` after a `!`, and doesn't read what comes after it. Otherwise returns
-    /// `More`, or the line's first fault.
+    /// Reads a line of cells, whose number is `line`, counted from 1. At the line's end, a count
+    /// without a sign is a fault. Returns `Over` after a `!`, and doesn't read what comes after it.
+    /// Otherwise returns `More`, the line's first fault, or `NoMemory`.
     pub(crate) fn read_line(
         &mut self,
         bounds: &Bounds,
@@ -103,9 +103,9 @@ impl Cells {
         self.unless_counting(line, column, Going::More)
     }
 
-    /// Reads one byte, at this line and column: a digit of a count, a blank, a `$`, a `!` or a
-    /// cell. Any other byte is a fault, and so is a blank or a `!` after a count. Returns `Over`
-    /// after a `!`, and `More` after any other byte.
+    /// Reads one byte, at this line and column, both counted from 1: a digit of a count, a space,
+    /// tab or CR, a `$`, a `!` or a cell. Any other byte is a fault, and so is a space, tab, CR or
+    /// `!` after a count. Returns `Over` after a `!`, and `More` after any other byte.
     fn step(
         &mut self,
         bounds: &Bounds,
@@ -134,8 +134,8 @@ impl Cells {
         }
     }
 
-    /// Appends a digit to the count that is being read, and returns `More`. A count above 512 is a
-    /// fault at this line and column.
+    /// Appends a digit, from 0 to 9, to the count that is being read, and returns `More`. A count
+    /// above 512 is a fault at this line and column.
     fn add_digit(&mut self, line: usize, column: usize, digit: u8) -> Result<Going, Unread>
         ensures { StepsTo (with_digit line column self.old digit) self.new result }
     {
@@ -148,7 +148,9 @@ impl Cells {
     }
 
     /// Adds cells of this state to the row: as many as the count before them says, or one without a
-    /// count. Returns `More`, or a fault if they don't fit or if there is no such state.
+    /// count. Returns `More`. It is a fault if the width or the height of `bounds` is exceeded, or
+    /// if `state` isn't less than its number of states. Fails with `NoMemory` if an allocation
+    /// fails.
     fn add_cells(
         &mut self,
         bounds: &Bounds,
@@ -175,7 +177,8 @@ impl Cells {
     }
 
     /// Ends as many rows as the count before a `$` says, or one without a count: this row, and then
-    /// rows without a cell. Returns `More`, or a fault if there are too many rows then.
+    /// rows without a cell. Returns `More`. More rows than the height of `bounds` are a fault.
+    /// Fails with `NoMemory` if an allocation fails.
     fn end_rows(&mut self, bounds: &Bounds, line: usize, column: usize) -> Result<Going, Unread>
         ensures { StepsTo (with_row_ends bounds.now line column self.old) self.new result }
     {
@@ -204,7 +207,8 @@ impl Cells {
         }
     }
 
-    /// Returns how often the next sign counts: the count that was just read, or 1 if there is none.
+    /// Returns how often the next `$` or cell counts: the count that was just read, or 1 if there
+    /// is none.
     fn times(&self) -> usize
         ensures { result ≡ times self.now.count }
     {
@@ -214,7 +218,7 @@ impl Cells {
         }
     }
 
-    /// Returns `going`, or a fault at this line and column if a count was read last.
+    /// Returns `going`, or the fault `Unexpected` at this line and column if a count was read last.
     fn unless_counting(&self, line: usize, column: usize, going: Going) -> Result<Going, Unread>
         ensures { result ≡ (if is_counting self.now.count
             then Err (Fault (record { line = line; column = column; cause = Cause.Unexpected }))

@@ -37,7 +37,8 @@ pub(crate) enum Head {
 
 /// Reads a line before the cells: a remark, a blank line, or the header. `number` is the line's
 /// number, counted from 1. `corner` is the pattern's upper left corner, a column and a row, if a
-/// remark before had one.
+/// remark before had one. Any other line is a fault, and so is a header with a number above the
+/// side.
 pub(crate) fn read_head(
     side: Side,
     number: usize,
@@ -59,9 +60,9 @@ pub(crate) fn read_head(
     check_header(side, number, corner, extents_in(line))
 }
 
-/// Returns where the pattern lies, and how large it is, by its header's width and height. It is a
-/// fault if the header has none (`extents`), or if one is more than the side. `number` is the
-/// line's.
+/// Returns where the pattern lies, and how large it is. `extents` is the header's width and height,
+/// or `None` if the line is no header, which is a fault. A width or height above the side is one
+/// too. `number` is the line's, counted from 1.
 fn check_header(
     side: Side,
     number: usize,
@@ -83,8 +84,8 @@ fn check_header(
     Ok(Head::Within(boxed(corner, width, height)))
 }
 
-/// Returns where a pattern lies, and how large it is. Its upper left corner is `corner`, or column
-/// 0 of row 0 without one.
+/// Returns where a pattern lies, and how large it is. Its upper left corner is `corner`, a column
+/// and a row, or column 0 of row 0 for `None`.
 fn boxed(corner: Option<(usize, usize)>, width: usize, height: usize) -> Extent
     ensures { boxed result ≡ box corner (width, height) }
 {
@@ -104,7 +105,7 @@ fn boxed(corner: Option<(usize, usize)>, width: usize, height: usize) -> Extent
     }
 }
 
-/// Returns the first pair if there is one, or else the second.
+/// Returns the first pair if it is there, or else the second, which may be `None`.
 fn first_or_second(
     first: Option<(usize, usize)>,
     second: Option<(usize, usize)>,
@@ -117,7 +118,8 @@ fn first_or_second(
     }
 }
 
-/// Returns a fault at the first column of a line.
+/// Returns the fault of this cause at the first column of a line. `line` is its number, counted
+/// from 1.
 fn fault(line: usize, cause: Cause) -> PatternFault
     ensures { result ≡ (record { line = line; column = 1; cause = cause }) }
 {
@@ -142,7 +144,7 @@ pub(crate) fn is_decimal(byte: u8) -> bool
     b'0' <= byte && byte < b':'
 }
 
-/// Returns the bytes after the blanks at their front.
+/// Returns the bytes after the spaces, tabs and CRs at their front.
 fn past_blanks(bytes: &[u8]) -> &[u8]
     ensures { result.now ≡ past_blanks bytes.now }
 {
@@ -156,8 +158,8 @@ fn past_blanks(bytes: &[u8]) -> &[u8]
     rest
 }
 
-/// Returns the decimal number at the front, and the bytes after it. A large number is reduced as
-/// `lowered` says. Returns `None` if no digit stands at the front.
+/// Returns the decimal number at the front, and the bytes after it. A number from 1,024 on is
+/// reduced as `lowered` says. Returns `None` if no digit stands at the front.
 fn number_at_front(bytes: &[u8]) -> Option<(usize, &[u8])>
     ensures { MatchOption result (number_at_front bytes.now ≡ None)
         (λ r. (n : ℕ) × (number_at_front bytes.now ≡ Some (n, r.1.now)) × StandsFor n r.0) }
@@ -169,8 +171,9 @@ fn number_at_front(bytes: &[u8]) -> Option<(usize, &[u8])>
     Some(number_after(usize::from(*first - b'0'), later))
 }
 
-/// Returns the number of a first digit and the digits at the front, and the bytes after them. A
-/// large number is reduced as `lowered` says.
+/// Returns the decimal number of the digit `first`, from 0 to 9, and of the digits at the front
+/// after it. Also returns the bytes after these. A number from 1,024 on is reduced as `lowered`
+/// says.
 fn number_after(first: usize, bytes: &[u8]) -> (usize, &[u8])
     requires { first < 10 }
     ensures { (n : ℕ) × (number_after first bytes.now ≡ (n, result.1.now))
@@ -219,8 +222,8 @@ fn strip_prefix<'a>(first: &[u8], bytes: &'a [u8]) -> Option<&'a [u8]>
     Some(rest)
 }
 
-/// Returns the bytes after blanks and then this byte. Returns `None` if another byte comes after
-/// the blanks.
+/// Returns the bytes after any spaces, tabs and CRs and then the byte `sign`. Returns `None` if
+/// another byte, or none, comes after the blanks.
 fn after_sign(sign: u8, bytes: &[u8]) -> Option<&[u8]>
     ensures { MatchOption result (after_sign sign bytes.now ≡ None)
         (λ r. after_sign sign bytes.now ≡ Some r.now) }
@@ -228,8 +231,8 @@ fn after_sign(sign: u8, bytes: &[u8]) -> Option<&[u8]>
     strip_prefix(&[sign], past_blanks(bytes))
 }
 
-/// Returns the number after this letter and an equals sign, with blanks between them, and the bytes
-/// after the number. Returns `None` if the bytes don't begin so.
+/// Returns the number after this letter and an equals sign, and the bytes after the number. Spaces,
+/// tabs and CRs may stand before each of the three. Returns `None` if the bytes don't begin so.
 fn extent_at_front(letter: u8, bytes: &[u8]) -> Option<(usize, &[u8])>
     ensures { MatchOption result (extent_at_front letter bytes.now ≡ None)
         (λ r. (n : ℕ) × (extent_at_front letter bytes.now ≡ Some (n, r.1.now))
@@ -250,8 +253,9 @@ fn ends_header(bytes: &[u8]) -> bool
     }
 }
 
-/// Returns the width and the height that a header has, reduced if they are large. Returns `None` if
-/// the line is no header.
+/// Returns the width and the height in a header, `x = WIDTH, y = HEIGHT`, and at its end nothing or
+/// a comma and more. A number from 1,024 on is reduced as `lowered` says. Returns `None` if the
+/// line is no header.
 fn extents_in(line: &[u8]) -> Option<(usize, usize)>
     ensures { AreExtents (extents_in line.now) result }
 {
@@ -265,8 +269,8 @@ fn extents_in(line: &[u8]) -> Option<(usize, usize)>
     }
 }
 
-/// Returns the whole number at the front modulo 512, and the bytes after it. A minus may stand
-/// before the number. Returns `None` if no number stands at the front.
+/// Returns the whole number at the front, modulo 512 and so from 0 to 511, and the bytes after it.
+/// A minus may stand before the number. Returns `None` if no number stands at the front.
 fn offset_at_front(bytes: &[u8]) -> Option<(usize, &[u8])>
     ensures { MatchOption result (offset_at_front bytes.now ≡ None)
         (λ r. offset_at_front bytes.now ≡ Some (r.0, r.1.now)) }
@@ -292,7 +296,8 @@ fn corner_at_front(between: u8, bytes: &[u8]) -> Option<(usize, usize)>
     Some((column, row))
 }
 
-/// Returns the bytes after the first place where `wanted` stands, or `None` if it stands nowhere.
+/// Returns the bytes after the first place where `wanted` stands. Returns `None` if it stands
+/// nowhere, or if `bytes` is empty.
 fn after_first<'a>(wanted: &[u8], bytes: &'a [u8]) -> Option<&'a [u8]>
     ensures { MatchOption result (after_first wanted.now bytes.now ≡ None)
         (λ r. after_first wanted.now bytes.now ≡ Some r.now) }
@@ -307,8 +312,9 @@ fn after_first<'a>(wanted: &[u8], bytes: &'a [u8]) -> Option<&'a [u8]>
     None
 }
 
-/// Returns the column and the row of a pattern's upper left corner that a remark has. Returns
-/// `None` for any other remark.
+/// Returns the column and the row of a pattern's upper left corner, each modulo 512, that a remark
+/// has. It stands after `#P `, `#R `, or the `Pos=` of a `#CXRLE ` line. Returns `None` for any
+/// other line.
 fn corner_in(line: &[u8]) -> Option<(usize, usize)>
     ensures { result ≡ corner_in line.now }
 {
@@ -316,8 +322,8 @@ fn corner_in(line: &[u8]) -> Option<(usize, usize)>
     first_or_second(corner_of_position(line), second)
 }
 
-/// Returns the column and the row after "Pos=" in a remark of Golly's. Returns `None` for any other
-/// line.
+/// Returns the column and the row, each modulo 512, after `Pos=` in a remark that begins with
+/// `#CXRLE `, as Golly writes it. A comma stands between them. Returns `None` for any other line.
 fn corner_of_position(line: &[u8]) -> Option<(usize, usize)>
     ensures { result
         ≡ option_and_then
@@ -328,8 +334,8 @@ fn corner_of_position(line: &[u8]) -> Option<(usize, usize)>
     corner_at_front(b',', after_first(b"Pos=", rest)?)
 }
 
-/// Returns the column and the row, with a space between them, of a line that begins with the bytes
-/// `first`. Returns `None` for any other line.
+/// Returns the column and the row, each modulo 512, with a space between them, after the bytes
+/// `first` at the front of a line. Returns `None` for any other line.
 fn corner_after(first: &[u8], line: &[u8]) -> Option<(usize, usize)>
     ensures { result ≡ option_and_then (corner_at_front 32) (strip_prefix first.now line.now) }
 {

@@ -56,7 +56,8 @@ impl Pattern {
     ghost use Rattle.cam6_patterns.specs.Reading.{with_rows};
     ghost use Rattle.cam6_patterns.specs.Outcome.{boxed};
 
-    /// Makes a pattern of these rows, at this place and of this size.
+    /// Makes a pattern of these rows, at this place and of this size. The rows lie within the size,
+    /// and each state is less than 16.
     pub(crate) fn new(extent: Extent, rows: Vec<PatternRow>) -> Pattern
         requires { IsPattern most_states (with_rows (boxed extent) rows.items) }
         ensures { result ≡ with_rows (boxed extent) rows.items }

@@ -38,7 +38,8 @@ impl ChosenPlanes {
     ghost use Rattle.std.specs.Prelude.{◌≡◌, ◌<◌, ◌≤◌, ◌^◌, length, take};
     ghost use Rattle.std.specs.List.{AllByRecursion};
 
-    /// Makes the list of the first `count` of these planes.
+    /// Makes the list of the first `count` of these planes, from 1 to 4. Each of them is a number
+    /// from 0 to 3.
     pub fn new(count: usize, planes: [u8; 4]) -> ChosenPlanes
         requires some { 0 < count }
         requires few { count ≤ 4 }
@@ -70,8 +71,8 @@ impl ChosenPlanes {
 }
 
 /// Writes the `set` command lines that put a pattern on a torus of this side. Each of its rows has
-/// one line for each plane. The pattern's own upper left corner is moved by `column` columns and
-/// `row` rows.
+/// one line for each plane: plane k of `planes`, from 0, gets bit k of the states. The pattern's
+/// own upper left corner is moved by `column` columns and `row` rows, each less than 512.
 pub fn write_placed<W: Write>(
     writer: &mut W,
     side: Side,
@@ -114,7 +115,8 @@ impl Placement<'_> {
     ghost use Rattle.cam6_patterns.specs.Placing.{bit_placed, set_line};
     ghost use Rattle.cam6_patterns.specs.Outcome.{lines_of_row};
 
-    /// Writes the `set` lines of the pattern's row `y`, counted from 0: one for each plane.
+    /// Writes the `set` lines of the pattern's row `y`, counted from 0 and less than 512: one for
+    /// each plane. Plane k of `planes`, from 0, gets bit k of the states.
     fn write_row<W: Write>(
         &self,
         writer: &mut W,
@@ -134,8 +136,8 @@ impl Placement<'_> {
         Ok(())
     }
 
-    /// Returns the command line that sets a row of this plane. Its bits are bit `k` of the states
-    /// in the pattern's row `y`.
+    /// Returns the command line, with its LF, that sets a row of this plane. Its bits are bit `k`,
+    /// 0 the lowest, of the states in the pattern's row `y`. `y` is less than 512.
     fn set_line(&self, plane: u8, k: usize, y: usize) -> Line
         requires top { self.now.top < 2 * most_cells }
         requires row { y < most_cells }
@@ -158,7 +160,8 @@ impl Placement<'_> {
     }
 
     /// Returns the hexadecimal digits of a row of a plane: bit `k` of the states in the pattern's
-    /// row `y`, four columns to a digit.
+    /// row `y`. There are four columns to a digit, the first its highest bit. Only a quarter as
+    /// many digits as the side has columns count.
     fn digits(&self, k: usize, y: usize) -> [u8; DIGITS]
         ensures { let n = side_number self.now.side / 4 in
             take n result ≡ row_text n
@@ -171,8 +174,9 @@ impl Placement<'_> {
         digits
     }
 
-    /// Returns the bytes of a row of a plane: bit `k` of the states in the pattern's row `y`, eight
-    /// columns to a byte.
+    /// Returns the bytes of a row of a plane: bit `k` of the states in the pattern's row `y`. There
+    /// are eight columns to a byte, the first its highest bit. Only an eighth as many bytes as the
+    /// side has columns count.
     fn bytes(&self, k: usize, y: usize) -> [u8; BYTES]
         ensures { let n = side_number self.now.side / 8 in
             take n result ≡ row_bytes n
@@ -186,7 +190,7 @@ impl Placement<'_> {
     }
 
     /// Returns bit `k` of the states at the torus's columns x to x + 7, in the pattern's row `y`,
-    /// as a number. Column x gives the highest bit.
+    /// as a number. Column x gives the highest bit. All eight are less than 512.
     fn eight_columns(&self, k: usize, y: usize, x: usize) -> u8
         requires { x + 8 ≤ most_cells }
         ensures { result ≡ eight_columns
@@ -196,7 +200,7 @@ impl Placement<'_> {
     }
 
     /// Returns bit `k` of the states at the torus's columns x to x + 3, in the pattern's row `y`,
-    /// as a number. Column x gives the highest bit.
+    /// as a number. Column x gives the highest bit. All four are less than 512.
     fn four_columns(&self, k: usize, y: usize, x: usize) -> u8
         requires { x + 4 ≤ most_cells }
         ensures columns { result ≡ four_columns
@@ -209,8 +213,8 @@ impl Placement<'_> {
             + self.bit(k, y, x + 3)
     }
 
-    /// Returns bit `k` of the state at the torus's column `x`, in the pattern's row `y`. It is 0
-    /// beside the pattern.
+    /// Returns bit `k`, 0 the lowest, of the state at the torus's column `x`, in the pattern's row
+    /// `y`. It is 0 beside the pattern. `x` is less than 512.
     fn bit(&self, k: usize, y: usize, x: usize) -> u8
         requires { x < most_cells }
         ensures bit { result ≡ bit_number (bit_placed (side_number self.now.side) self.now.first
@@ -242,7 +246,7 @@ fn push_all(line: &mut Line, bytes: &[u8])
     line.try_extend_from_slice(bytes).unwrap();
 }
 
-/// Returns the state at column `x` of row `y`, or 0 if the rows leave it out.
+/// Returns the state at column `x` of row `y`, both counted from 0, or 0 if the rows leave it out.
 fn state_in(rows: &[PatternRow], x: usize, y: usize) -> u8
     ensures { result ≡ state_in rows.now x y }
 {
@@ -255,7 +259,7 @@ fn state_in(rows: &[PatternRow], x: usize, y: usize) -> u8
     }
 }
 
-/// Returns bit `k` of a state, counted from the lowest, which is 0.
+/// Returns bit `k` of a state, counted from the lowest, which is 0. It is 0 for `k` from 8 on.
 fn bit_of(state: u8, k: usize) -> u8
     ensures bit { result ≡ bit_number (bit_at state k == 1) }
     ensures small { result < 2 }

@@ -48,8 +48,8 @@ impl<T: Drop> From<AllocFailed<T>> for Unread {
     }
 }
 
-/// Reads the text of a pattern for a torus of this side, whose cells have so many states. Returns
-/// the pattern, or the text's first fault.
+/// Reads the text of a pattern for a torus of this side, whose cells have so many states, at most
+/// 16. Returns the pattern, the text's first fault, or `NoMemory` if an allocation fails.
 pub fn read_pattern(alloc: Global, side: Side, states: u8, text: &[u8]) -> Result<Pattern, Unread>
     requires { states ≤ most_states }
     ensures pattern { IfOk result (λ p. pattern_in (side_number side) states text.now ≡ Ok p) }
@@ -110,7 +110,7 @@ fn find_box(side: Side, text: &[u8]) -> Result<Start<'_>, PatternFault>
 }
 
 /// Reads the rows of cells in the text after the header. `before` is how many lines come before
-/// this text. Returns the text's first fault if it has one.
+/// this text. Returns the text's first fault if it has one, or `NoMemory` if an allocation fails.
 fn read_rows(
     alloc: Global,
     extent: Extent,

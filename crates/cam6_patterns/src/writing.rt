@@ -27,8 +27,8 @@ pub struct PatternTexts<W> {
 impl<W: Write> PatternTexts<W> {
     ghost use Rattle.std.specs.Prelude.{◌≡◌, string_bytes};
 
-    /// Makes a screen that writes each frame as the text of a pattern. The texts have this rule's
-    /// name, or no rule if it is empty.
+    /// Makes a screen that writes each frame as the text of a pattern. `rule` is the name of the
+    /// rule in their headers, or empty for none.
     pub fn new(alloc: Global, writer: W, rule: String) -> PatternTexts<W>
         ensures writer { result.writer ≡ writer }
         ensures rule { result.rule ≡ rule }
@@ -90,7 +90,8 @@ fn push_header(text: &mut Vec<u8>, side: usize, rule: &[u8]) -> Result<(), Alloc
     text.extend_from_slice(b"\n")
 }
 
-/// Pushes all rows of a frame, and the `!` at the end, but not the LF after it.
+/// Pushes all rows of a frame, and the `!` at the end, but not the LF after it. `states` is 2 or
+/// 16, as `states_of` returns it.
 fn push_rows(text: &mut Vec<u8>, states: u8, frame: &Frame) -> Result<(), AllocError>
     ensures { OnOk result (text.old.items ++ filled 0 (row_by_row states 0 frame.now)
         ≡ text.new.items ++ codes "\n") }
@@ -108,9 +109,9 @@ fn push_rows(text: &mut Vec<u8>, states: u8, frame: &Frame) -> Result<(), AllocE
     Ok(())
 }
 
-/// Pushes the `ends` row ends that aren't written yet, and then a row. A row of zeros alone is only
-/// counted as a row end. `used` is how many bytes the last line has. Returns this number after it,
-/// and how many row ends are then not written yet.
+/// Pushes the `ends` row ends, at most 512, that aren't written yet, and then a row of states below
+/// 16. A row of zeros alone is only counted as a row end. `used` is how many bytes the last line
+/// has. Returns this number after it, and how many row ends are then not written yet.
 fn push_row(
     text: &mut Vec<u8>,
     used: usize,
@@ -133,8 +134,8 @@ fn push_row(
     Ok((used, 1))
 }
 
-/// Pushes the ends of `ends` rows, or nothing for 0. `used` is how many bytes the last line has.
-/// Returns this number after it.
+/// Pushes a `$` with the count `ends`, or nothing for 0. `used` is how many bytes the last line
+/// has. Returns this number after it.
 fn push_row_ends(text: &mut Vec<u8>, used: usize, ends: usize) -> Result<usize, AllocError>
     ensures { IfOk result (λ after.
         Fills text.old.items used (row_ends ends) text.new.items after) }
@@ -145,8 +146,9 @@ fn push_row_ends(text: &mut Vec<u8>, used: usize, ends: usize) -> Result<usize, 
     push_part(text, used, counted(ends, b'$').as_slice())
 }
 
-/// Pushes the runs of equal cells of a row. `used` is how many bytes the last line has. Returns
-/// this number after it.
+/// Pushes the runs of equal cells of a row. Each cell is less than 16. `states` chooses their
+/// letters, as `letter` says. `used` is how many bytes the last line has. Returns this number after
+/// it.
 fn push_runs(text: &mut Vec<u8>, used: usize, states: u8, cells: &[u8]) -> Result<usize, AllocError>
     requires { AllByRecursion (λ cell. cell < most_states) cells.now }
     ensures { IfOk result (λ after.
@@ -172,8 +174,8 @@ fn push_runs(text: &mut Vec<u8>, used: usize, states: u8, cells: &[u8]) -> Resul
     push_part(text, used, counted(count, letter(states, state)).as_slice())
 }
 
-/// Pushes a part, on a new line if it doesn't fit on the last one. `used` is how many bytes the
-/// last line has. Returns this number after it.
+/// Pushes a part, such as `3o`, `$` or `!`, on a new line if the last one would have more than 70
+/// bytes. `used` is how many bytes the last line has. Returns this number after it.
 fn push_part(text: &mut Vec<u8>, used: usize, part: &[u8]) -> Result<usize, AllocError>
     ensures { IfOk result (λ after.
         Fills text.old.items used (part.now ∷ []) text.new.items after) }
@@ -207,8 +209,8 @@ fn counted(count: usize, letter: u8) -> Part
     part
 }
 
-/// Returns a state's letter. It is `b` or `o` if there are two states, or else `.` for 0 and `A` to
-/// `O` for 1 to 15.
+/// Returns the letter of a state below 16. If there are at most two states, it is `b` for 0 or else
+/// `o`. If there are more, it is `.` for 0 and `A` to `O` for 1 to 15.
 fn letter(states: u8, state: u8) -> u8
     requires { state < most_states }
     ensures { result ≡ letter states state }
@@ -219,7 +221,7 @@ fn letter(states: u8, state: u8) -> u8
     if state == 0 { b'.' } else { 64 + state }
 }
 
-/// Returns the row up to its last cell of another state than 0.
+/// Returns the row up to its last cell of another state than 0. It is empty if there is none.
 fn trimmed(row: &[u8]) -> &[u8]
     ensures { result.now ≡ trimmed row.now }
 {
@@ -261,7 +263,8 @@ fn are_two_states(cells: &[u8]) -> bool
     true
 }
 
-/// Returns the cells of row `y` of a frame, and zeros after them.
+/// Returns the cells of row `y` of a frame, counted from 0, and zeros after them. The frame has
+/// this row.
 fn row_cells(frame: &Frame, y: usize) -> [u8; COLUMNS]
     requires { y < length frame.now }
     ensures { take (length frame.now) result ≡ get_or frame.now y [] }
