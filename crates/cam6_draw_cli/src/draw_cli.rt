@@ -91,7 +91,8 @@ fn options_of_matches(matches: &ArgMatches<'_>) -> Result<DrawOptions, Unsaid>
     )
 }
 
-/// Collects these four values as options, or returns the first error among them.
+/// Collects these four values as options, or returns the first error among them, in the order of
+/// the arguments. The scale, if there is one, is from 1 to 16.
 fn collect_options(
     way: Result<Way, Unsaid>,
     palette: Result<[Light; 16], Unsaid>,
@@ -128,7 +129,7 @@ fn collect_options(
     })
 }
 
-/// Returns how pictures are to be written by clap's matches, or why no way is asked for.
+/// Returns how pictures are to be written by clap's matches. Returns an error as `way_of` says.
 fn way_asked(matches: &ArgMatches<'_>) -> Result<Way, Unsaid>
     ensures { result_ok result ≡ way_at (rows_of (found_of matches.now)) }
 {
@@ -139,9 +140,9 @@ fn way_asked(matches: &ArgMatches<'_>) -> Result<Way, Unsaid>
     )
 }
 
-/// Returns how pictures are to be written if `--ppm` and `--text` are there or not, and `--frames`
-/// has this word. Exactly one of `--ppm` and `--text` is needed, and `--frames` goes only with
-/// `--text`.
+/// Returns how pictures are to be written. `ppm` and `text` say whether `--ppm` and `--text` are
+/// there, and `frames` is the word at `--frames`. It is an error unless exactly one of the two is
+/// there. So is `--frames` without `--text`, or with a word that isn't a number from 1 to 1000.
 fn way_of(ppm: bool, text: bool, frames: Option<&str>) -> Result<Way, Unsaid>
     ensures { result_ok result ≡ way_said ppm text (option_map (λ word. word.now) frames.entry) }
 {
@@ -175,8 +176,8 @@ fn is_true(word: Option<&str>) -> bool
     }
 }
 
-/// Returns the light of each colour that the word at `--palette` has, or `PALETTE` without a word.
-/// Returns an error for a word that is no palette.
+/// Returns the lights of the colours 0 to 15 that the word at `--palette` has, or `PALETTE` for
+/// `None`. Returns an error for a word that is no palette.
 fn palette_by(word: Option<&str>) -> Result<[Light; 16], Unsaid>
     ensures { result_ok result ≡ palette_told (option_map (λ word. word.now) word.entry) }
 {
@@ -189,8 +190,8 @@ fn palette_by(word: Option<&str>) -> Result<[Light; 16], Unsaid>
     }
 }
 
-/// Returns the window that the words at `--crop` have. Without words it is `None`, the whole torus.
-/// Returns an error for words that are no window.
+/// Returns the window that the words at `--crop` have, or `None`, the whole torus, if the option
+/// isn't there. Returns an error for words that are no window, or not four.
 fn window_by(words: Option<&[&str]>) -> Result<Option<Window>, Unsaid>
     ensures { result_ok result ≡ window_told (option_map (λ words. texts words.now) words.entry) }
 {
@@ -203,7 +204,8 @@ fn window_by(words: Option<&[&str]>) -> Result<Option<Window>, Unsaid>
     }
 }
 
-/// Returns the window that four words have. Returns `None` if they are no window, or not four.
+/// Returns the window that four words have: its first column, first row, width and height. Returns
+/// `None` if one is no number within its bounds, or if they aren't four.
 fn window_of(words: &[&str]) -> Option<Window>
     ensures { result ≡ window_of_words (texts words.now) }
 {
@@ -215,7 +217,7 @@ fn window_of(words: &[&str]) -> Option<Window>
 }
 
 /// Returns the window with these words as its first column, first row, width and height. Returns
-/// `None` if one of them is no number within its bounds.
+/// `None` unless the first two are numbers from 0 to 511, and the others from 1 to 512.
 fn window_asked_for(x: &str, y: &str, w: &str, h: &str) -> Option<Window>
     ensures { result ≡ window_asked_for x.now y.now w.now h.now }
 {
@@ -239,7 +241,7 @@ fn window_asked_for(x: &str, y: &str, w: &str, h: &str) -> Option<Window>
     })
 }
 
-/// Returns how many pixels a cell is wide and high: the number at `--scale`, or 1 without a word.
+/// Returns how many pixels a cell is wide and high: the number at `--scale`, or 1 for `None`.
 /// Returns an error for a word that isn't a number from 1 to 16.
 fn scale_by(word: Option<&str>) -> Result<usize, Unsaid>
     ensures scale { result_ok result ≡ scale_told (option_map (λ word. word.now) word.entry) }

@@ -8,8 +8,8 @@ use cam6_arguments::{Program, report_failure};
 use cam6_show_frames::End;
 use std::process::ExitCode;
 
-/// Returns the exit status for how a program's work ended. If that is a failure, prints its line to
-/// standard error.
+/// Returns the exit status for how a program's work ended: 0 for `EndOfInput`. Any other end is a
+/// failure, and its line is printed to standard error.
 pub fn report_end<R: Eprint + AllocGlobal>(rt: &R, program: Program, end: End) -> ExitCode
     ensures { MatchOption (failure program end) (exit_status result ≡ 0)
         (λ told. exit_status result ≡ told.0) }

@@ -68,7 +68,9 @@ pub fn options_of_rle(alloc: Global, words: &[String]) -> Result<RleOptions, Ref
     }
 }
 
-/// Returns the task that clap's matches ask for, or why they are refused.
+/// Returns the task that clap's matches ask for: writing patterns with `--replies`, or else placing
+/// one. Refuses wrong values, and `--rule` without `--replies`. Returns `Refused::NoMemory` if an
+/// allocation fails.
 fn task_given(alloc: Global, matches: &ArgMatches<'_>) -> Result<RleOptions, Refused>
     ensures task { IfOk result (λ options. HasTask options (task_of (rows_of (found_of matches.now)))) }
     ensures refused { IfErr result (λ refused. IsRefusal refused
@@ -93,8 +95,8 @@ fn names_rule(matches: &ArgMatches<'_>) -> bool
     text_at(matches, "rule").is_some()
 }
 
-/// Returns the task of placing a pattern where clap's matches say. Returns `None` if a value is
-/// wrong.
+/// Returns the task of placing a pattern where clap's matches say. Returns `None` if the side, the
+/// column, the row or the planes are missing or wrong.
 fn place_given(matches: &ArgMatches<'_>) -> Option<RleOptions>
     ensures { MayHaveTask result (place_at (rows_of (found_of matches.now))) }
 {
@@ -106,8 +108,8 @@ fn place_given(matches: &ArgMatches<'_>) -> Option<RleOptions>
     )
 }
 
-/// Returns the task of placing a pattern, with these values. Returns `None` if one of them is
-/// missing.
+/// Returns the task of placing a pattern, with these values. The column and the row are at most
+/// 511. Returns `None` if one of the four is `None`.
 fn place_task(
     side: Option<Side>,
     column: Option<usize>,
@@ -127,7 +129,7 @@ fn place_task(
 }
 
 /// Returns how many columns, or rows, the option of this name moves the pattern by. Returns `None`
-/// if its value is no number from 0 to 511.
+/// if it has no value, or if that is no number from 0 to 511.
 fn move_given(matches: &ArgMatches<'_>, name: &str) -> Option<usize>
     ensures value { result ≡ move_at name.now (rows_of (found_of matches.now)) }
     ensures within { IfSome result (λ cells. cells ≤ last_move) }
@@ -136,15 +138,16 @@ fn move_given(matches: &ArgMatches<'_>, name: &str) -> Option<usize>
     Some(cells as usize)
 }
 
-/// Returns the planes at `--planes`, or `None` if its value has none.
+/// Returns the planes at `--planes`. Returns `None` if it has no value, or if that isn't one to
+/// four different digits from 0 to 3.
 fn planes_given(matches: &ArgMatches<'_>) -> Option<ChosenPlanes>
     ensures { result ≡ planes_at (rows_of (found_of matches.now)) }
 {
     planes_of_word(text_at(matches, "planes")?)
 }
 
-/// Returns the task of writing patterns, whose texts have the rule's name at `--rule`, or none
-/// without it. Refuses a name with an LF.
+/// Returns the task of writing patterns. `rule` is the name at `--rule`, or empty without it.
+/// Refuses a name with an LF. Returns `Refused::NoMemory` if an allocation fails.
 fn gather_given(alloc: Global, matches: &ArgMatches<'_>) -> Result<RleOptions, Refused>
     ensures task { IfOk result (λ options. HasTask options (gather_at (rows_of (found_of matches.now)))) }
     ensures refused { IfErr result (λ refused. IsRefusal refused
@@ -174,15 +177,16 @@ fn is_one_line(bytes: &[u8]) -> bool
     true
 }
 
-/// Returns the refusal of arguments that ask for no task.
+/// Returns the refusal of arguments that ask for no task, with its line for the user. It is
+/// `Refused::NoMemory` if an allocation for the line fails.
 fn no_task(alloc: Global) -> Refused
     ensures { IsRefusal result }
 {
     refusal_of_text(String::from_str(alloc, NO_TASK_TEXT))
 }
 
-/// Returns the planes whose numbers are a word's one to four different digits, or `None` for any
-/// other word.
+/// Returns the planes whose numbers are a word's digits, in their order. Returns `None` if the word
+/// isn't one to four different digits from 0 to 3.
 fn planes_of_word(word: &str) -> Option<ChosenPlanes>
     ensures { result ≡ planes_said word.now }
 {
@@ -206,7 +210,7 @@ fn says_planes(digits: &[u8]) -> bool
     are_different(digits)
 }
 
-/// Returns whether each byte is a digit from 0 to 3.
+/// Returns whether each byte is a digit from 0 to 3. It is true if there are none.
 fn are_plane_digits(bytes: &[u8]) -> bool
     ensures { result ≡ list_all is_plane_digit bytes.now }
 {
@@ -227,7 +231,7 @@ fn is_plane_digit(b: u8) -> bool
     (b'0'..=b'3').contains(&b)
 }
 
-/// Returns whether no byte occurs twice.
+/// Returns whether no byte occurs twice. It is true if there are none.
 fn are_different(bytes: &[u8]) -> bool
     ensures { result ≡ are_different bytes.now }
 {
@@ -241,7 +245,8 @@ fn are_different(bytes: &[u8]) -> bool
     true
 }
 
-/// Returns the planes with these numbers, one to four different digits, in their order.
+/// Returns the planes with these numbers, in their order. The bytes are one to four different
+/// digits from 0 to 3.
 fn planes_of_digits(digits: &[u8]) -> ChosenPlanes
     requires { says_planes digits.now ≡ true }
     ensures { result ≡ map (λ b. b - 48) digits.now }

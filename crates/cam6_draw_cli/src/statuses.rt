@@ -15,9 +15,9 @@ pub const BAD_INPUT: u8 = 3;
 /// More lines than can be counted.
 pub const TOO_MANY_LINES: u8 = 6;
 
-/// Returns the exit status of an end that is a failure, and its line for standard error. If an
-/// allocation for the line failed, that error is in its place. Returns `None` for an end that is no
-/// failure.
+/// Returns the exit status of an end that is a failure, and its line, with its LF, for standard
+/// error. If an allocation for the line failed, that error is in its place. Returns `None` for
+/// `EndOfInput`, the only end that is no failure.
 pub fn failure_of(
     alloc: Global,
     program: Program,
@@ -49,7 +49,8 @@ pub fn failure_of(
     Some((status, text))
 }
 
-/// Returns a message: the program's name, the number of a line, and then this text.
+/// Returns a message: the program's name, `line` with its number, and then this text, without a
+/// space between. The text has its own LF.
 fn at_line(alloc: Global, program: Program, line: u64, text: &str) -> Result<String, AllocError>
     ensures { IfOk result (λ told. string_bytes told ≡ at_line_told program line text.now) }
 {
@@ -57,7 +58,8 @@ fn at_line(alloc: Global, program: Program, line: u64, text: &str) -> Result<Str
     format!(in alloc; "{name}: line {line}{text}")
 }
 
-/// Returns the line for the user that reports why and where a text isn't a pattern.
+/// Returns the line, with its LF, that reports why and where a text isn't a pattern. It begins with
+/// the name of `cam6_rle`, and has the line and column of the fault.
 pub fn fault_text(alloc: Global, fault: PatternFault) -> Result<String, AllocError>
     ensures { IfOk result (λ told. string_bytes told ≡ fault_told fault) }
 {
@@ -66,14 +68,16 @@ pub fn fault_text(alloc: Global, fault: PatternFault) -> Result<String, AllocErr
     at_line(alloc, Program::Rle, fault.line as u64, text.as_str())
 }
 
-/// Returns a part of a message: the number of a column, and then this text.
+/// Returns a part of a message: a comma, `column` with its number, and then this text, without a
+/// space between.
 fn at_column(alloc: Global, column: usize, text: &str) -> Result<String, AllocError>
     ensures { IfOk result (λ told. string_bytes told ≡ column_told column text.now) }
 {
     format!(in alloc; ", column {column}{text}")
 }
 
-/// Returns the last part of the line that reports why a text isn't a pattern, with its LF.
+/// Returns the last part of the line that reports why a text isn't a pattern: a colon, the cause,
+/// and an LF.
 fn cause_text(alloc: Global, cause: Cause) -> Result<String, AllocError>
     ensures { IfOk result (λ told. string_bytes told ≡ cause_told cause) }
 {
