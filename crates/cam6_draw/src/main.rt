@@ -37,7 +37,8 @@ fn options_given<R: Env + AllocGlobal>(rt: &R) -> Result<DrawOptions, Refused> {
     options_of_draw(rt.alloc(), words.as_slice())
 }
 
-/// Draws the frames of the replies on standard input, and returns the exit status.
+/// Draws the frames of the replies on standard input to standard output. Prints why that ended to
+/// standard error if it failed. Returns the exit status.
 fn draw<R: Input + Print + Eprint + AllocGlobal + Clock>(
     rt: &R,
     options: &DrawOptions,
@@ -60,8 +61,8 @@ fn draw<R: Input + Print + Eprint + AllocGlobal + Clock>(
     report_end(rt, Program::Draw, end)
 }
 
-/// Returns how long a picture stays if there are at most `rate` a second. Without a rate it is
-/// `None`.
+/// Returns how long a picture stays if there are at most `rate` a second, in whole microseconds. A
+/// rate of 0 counts as 1. Without a rate it is `None`.
 fn pause_of(rate: Option<usize>) -> Option<Duration> {
     match rate {
         Some(rate) => Some(Duration::from_micros(1_000_000 / rate.max(1) as u64)),
