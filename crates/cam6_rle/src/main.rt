@@ -42,7 +42,7 @@ fn options_given<R: Env + AllocGlobal>(rt: &R) -> Result<RleOptions, Refused> {
 }
 
 /// Reads a pattern from standard input, and prints the command lines that set it at this place.
-/// Returns the exit status.
+/// Prints why to standard error if that fails. Returns the exit status.
 fn place_pattern<R: Input + Print + Eprint + AllocGlobal>(rt: &R, place: &Place) -> ExitCode {
     let alloc = rt.alloc();
     let mut text = Vec::new(alloc);
@@ -59,7 +59,8 @@ fn place_pattern<R: Input + Print + Eprint + AllocGlobal>(rt: &R, place: &Place)
     }
 }
 
-/// Prints the command lines that set a pattern at this place, and returns the exit status.
+/// Prints the command lines that set a pattern at this place. Prints why to standard error if that
+/// fails. Returns the exit status.
 fn write_pattern<R: Print + Eprint + AllocGlobal>(
     rt: &R,
     place: &Place,
@@ -91,8 +92,9 @@ fn report_fault<R: Eprint + AllocGlobal>(rt: &R, fault: PatternFault) -> ExitCod
     }
 }
 
-/// Prints the text of a pattern for each frame of the replies on standard input. The texts have
-/// this rule's name. Returns the exit status.
+/// Prints the text of a pattern for each frame of the replies on standard input. `rule` is the name
+/// of the rule in their headers, or empty for none. Prints why to standard error if that fails.
+/// Returns the exit status.
 fn gather_patterns<R: Input + Print + Eprint + AllocGlobal>(rt: &R, rule: String) -> ExitCode {
     let alloc = rt.alloc();
     let Ok(mut reader) = BufReader::new(alloc, rt.reader()) else {
