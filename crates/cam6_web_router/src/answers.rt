@@ -61,8 +61,9 @@ pub fn answer_to(router: &Router, has_room: bool, request: &Request<Bytes>) -> A
     }
 }
 
-/// Returns the answer to a request at a socket's path. `host` is the value of its field `Host`, and
-/// `way` is where its path leads. `has_room` says whether one more socket may be opened.
+/// Returns the answer to a GET or HEAD request at a socket's path. `host` is the value of its field
+/// `Host`, one of the router's names, and `way` is where its path leads. `has_room` says whether
+/// one more socket may be opened.
 fn answer_to_socket(
     router: &Router,
     has_room: bool,
@@ -91,8 +92,9 @@ fn answer_to_socket(
     }
 }
 
-/// Returns the key that accepts the WebSocket handshake of a request. Returns `None` if the request
-/// is no handshake, or if its key is wrong.
+/// Returns the key, for the field `Sec-WebSocket-Accept`, that accepts the WebSocket handshake of a
+/// request. Returns `None` if the method isn't GET, if the fields don't ask for a WebSocket, or if
+/// its key is missing or wrong.
 fn accept_key_of(request: &Request<Bytes>) -> Option<[u8; 28]>
     ensures some { IfSome result (λ accept. Accepts request.now accept) }
     ensures none { IfNone result (IsNoHandshake request.now) }
@@ -109,7 +111,8 @@ fn accept_key_of(request: &Request<Bytes>) -> Option<[u8; 28]>
     }
 }
 
-/// Returns whether the request's fields ask for a WebSocket of version 13, as all browsers do.
+/// Returns whether the request's fields ask for a WebSocket of version 13: `Upgrade` is
+/// `websocket`, in letters of either case, and `Sec-WebSocket-Version` is 13.
 fn asks_for_websocket(request: &Request<Bytes>) -> bool
     ensures { IsTrue result ↔ AsksForWebSocket request.now }
 {
@@ -122,7 +125,8 @@ fn asks_for_websocket(request: &Request<Bytes>) -> bool
     upgrade.eq_ignore_ascii_case(b"websocket") && version == b"13".as_slice()
 }
 
-/// Returns the value of the first field of this name, or `None` if there is no such field.
+/// Returns the value of the first field of this name, in letters of either case. Returns `None` if
+/// there is no such field.
 fn field_value<'a>(request: &'a Request<Bytes>, name: &str) -> Option<&'a [u8]>
     ensures { option_map (λ bytes. bytes.now) result ≡ field_value request.now (lowercase name.now) }
 {

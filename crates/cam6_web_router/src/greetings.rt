@@ -33,7 +33,8 @@ pub struct Opening {
 
 /// Answers the requests of a connection by a site. Returns where its socket leads if the last
 /// answer opened one, and the bytes that were read after the handshake. Returns `None` if the
-/// connection ended without a socket.
+/// connection ended without a socket. Fails if reading, writing, a random seed or an allocation
+/// fails.
 pub fn greet<T: RandomSource, R: Read, W: Write>(
     source: &T,
     alloc: Global,

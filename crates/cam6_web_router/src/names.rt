@@ -30,7 +30,8 @@ impl Model for Names {
 }
 
 impl Names {
-    /// Makes the names for a port: `127.0.0.1` and `localhost`, each with the port after it.
+    /// Makes the names for a port: `127.0.0.1` and `localhost`, each with a colon and the port
+    /// after it.
     pub fn new(alloc: Global, port: u16) -> Result<Names, AllocError>
         ensures { IfOk result (λ names. names ≡ named port []) }
     {
@@ -46,6 +47,7 @@ impl Names {
     }
 
     /// Adds a name, as the field `Host` spells it: in small letters, with its port if it has one.
+    /// If an allocation fails, the names stay.
     pub fn add(&mut self, name: &str) -> Result<(), AllocError>
         ensures ok { OnOk result (self.new ≡ named self.old.port (self.old.added ++ name.now ∷ [])) }
         ensures err { OnErr result (self.new ≡ self.old) }
@@ -55,7 +57,8 @@ impl Names {
         Ok(())
     }
 
-    /// Returns whether the value of a field `Host` is one of the names.
+    /// Returns whether the value of a field `Host` is, byte for byte, one of the names: those for
+    /// the port, or an added one.
     pub fn is_name(&self, host: &[u8]) -> bool
         ensures { IsTrue result ↔ IsName self.now host.now }
     {
@@ -78,7 +81,7 @@ impl Names {
     }
 }
 
-/// Returns whether `text` is equal to one of `texts`.
+/// Returns whether `text` is, byte for byte, equal to one of `texts`.
 fn is_among(texts: &[Bytes], text: &[u8]) -> bool
     ensures { IsTrue result ↔ Contains texts.now text.now }
 {

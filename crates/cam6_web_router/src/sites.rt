@@ -28,8 +28,8 @@ pub struct Site<'a> {
 }
 
 impl<'a> Site<'a> {
-    /// Makes the site that a router serves to one connection. `has_room` says whether one more
-    /// socket may be opened.
+    /// Makes the site that a router serves to one connection, without an opened socket. `has_room`
+    /// says whether one more socket may be opened.
     pub fn new(alloc: Global, router: &'a Router, has_room: bool) -> Site<'a>
         ensures router { result.router.now ≡ router.now }
         ensures has_room { result.has_room ≡ has_room }
@@ -56,7 +56,8 @@ impl<'a> Service for Site<'a> {
 
     ghost answers = { Answers };
 
-    /// Answers a request, and notes where its socket leads, if the answer opens one.
+    /// Answers a request in the response, and notes where its socket leads, if the answer opens
+    /// one. If an allocation fails, notes nothing.
     fn call(
         &mut self,
         request: &Request<Bytes>,
@@ -138,7 +139,8 @@ fn plain_text() -> HeaderValue
     HeaderValue::from_static("text/plain; charset=utf-8")
 }
 
-/// Fills a blank response with a refusal: this status, and a plain text as the body.
+/// Fills a blank response with a refusal: this status, a plain text as the body, and the fields
+/// that `show` adds.
 fn refuse(response: &mut Response, status: StatusCode, text: &'static str) -> Result<(), AllocError>
     requires { IsBlank response.old }
     ensures { OnOk result (IsResponse status (fields_of_kind plain) text.now response.new) }
@@ -148,7 +150,7 @@ fn refuse(response: &mut Response, status: StatusCode, text: &'static str) -> Re
 }
 
 /// Fills a blank response with this status, and a text of this content type as the body. Adds the
-/// fields that every such response has.
+/// fields that every response but an opened socket's has.
 fn show(
     response: &mut Response,
     status: StatusCode,
@@ -173,7 +175,8 @@ fn show(
     response.body.push(text)
 }
 
-/// Fills a blank response with status 101, the fields that open a socket, and the key `accept`.
+/// Fills a blank response with status 101, the fields that open a socket, and the key `accept`. It
+/// has no body. `router` and `way` are for the contract only.
 fn open(
     alloc: Global,
     router: &Router,
