@@ -10,7 +10,7 @@ use std::io::{Read, Write};
 
 /// Carries the messages of a page to a host, and the host's answers back, until the bridge ends.
 /// Then sends the page a close with the reason, and returns how the bridge ended. The stream's
-/// handshake is done, and `unread` was read after it.
+/// handshake is done, and `unread` has the bytes that were read after it.
 pub fn bridge<S: Read + Write + Paced + Drop, H: Host>(
     alloc: Global,
     stream: S,
@@ -29,7 +29,7 @@ pub fn bridge<S: Read + Write + Paced + Drop, H: Host>(
 }
 
 /// Sends a page a close with the reason why it is turned away. The stream's handshake is done, and
-/// `unread` was read after it.
+/// `unread` has the bytes that were read after it. A failure to send is ignored.
 pub fn turn_away<S: Read + Write + Paced + Drop>(
     alloc: Global,
     stream: S,

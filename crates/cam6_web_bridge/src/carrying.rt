@@ -55,9 +55,9 @@ pub fn carry<P: Page, H: Host>(page: &mut P, host: &mut H) -> End
     End::TurnBound
 }
 
-/// Receives the next message of the page, hands a text to the host, and sends its answer.
-/// `silences` is how often in a row the page was silent before. Returns this number after it, or
-/// how the bridge ends.
+/// Receives the next message of the page, hands a text to the host, and sends its answer. If the
+/// page is silent, sends a ping. `silences` is how often in a row the page was silent before, at
+/// most 2. Returns this number after it, 0 for a message, or how the bridge ends.
 fn exchange<P: Page, H: Host>(page: &mut P, host: &mut H, silences: u8) -> Result<u8, End>
     requires { silences < max_silences }
     ensures { Exchanges P.speaking H.answering result silences
@@ -74,8 +74,8 @@ fn exchange<P: Page, H: Host>(page: &mut P, host: &mut H, silences: u8) -> Resul
     }
 }
 
-/// Sends a ping to a page that was silent once more, after `silences` silences in a row. Returns
-/// how many silences there are now. At the third the bridge ends without a ping.
+/// Sends a ping to a page that was silent once more, after `silences` silences in a row, at most 2.
+/// Returns how many silences there are now. At the third the bridge ends without a ping.
 fn ping_silent_page<P: Page>(page: &mut P, silences: u8) -> Result<u8, End>
     requires { silences < max_silences }
     ensures { IsWaitedOn P.speaking result silences (P.stands page.old) (P.stands page.new) }
@@ -90,7 +90,7 @@ fn ping_silent_page<P: Page>(page: &mut P, silences: u8) -> Result<u8, End>
 }
 
 /// Hands a text of the page to the host, and sends the page the answer. Returns how the bridge ends
-/// if the text isn't one line, if it is too long, or if a part of this fails.
+/// if the text has an LF, if it is too long, or if the host or the page fails.
 fn carry_line<P: Page, H: Host>(page: &mut P, host: &mut H, line: &[u8]) -> Result<(), End>
     ensures { IsCarried P.speaking H.answering result line.now
         (P.stands page.old) (H.stands host.old) (P.stands page.new) (H.stands host.new) }
@@ -126,7 +126,7 @@ fn send_answer<P: Page>(page: &mut P, answer: Answer) -> Result<(), End>
     }
 }
 
-/// Returns whether no byte of a text is an LF.
+/// Returns whether no byte of a text is an LF. It is true for an empty text.
 fn has_no_lf(text: &[u8]) -> bool
     ensures { IsTrue result ↔ HasNoLf text.now }
 {

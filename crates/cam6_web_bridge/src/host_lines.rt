@@ -40,14 +40,16 @@ impl<R: BufRead, W: Write> Host for HostLines<R, W> {
 
     ghost answering = { by_lines };
 
-    /// Writes a line with its LF, and returns the next line that is read as its answer.
+    /// Writes a line with its LF, and returns the next line that is read, without its LF, as its
+    /// answer.
     fn ask(&mut self, line: &[u8]) -> Result<Answer, Silence> {
         hand_over(self.alloc, &mut self.writer, line)?;
         Ok(Answer::Made(next_answer(self.alloc, &mut self.reader)?))
     }
 }
 
-/// Writes a line with its LF to the host's stream.
+/// Writes a line and an LF after it to the host's stream. Returns `Unwritten` if that fails, and
+/// `NoMemory` if an allocation fails.
 fn hand_over<W: Write>(alloc: Global, writer: &mut W, line: &[u8]) -> Result<(), Silence>
     ensures { Hands result (W.contents writer.old) line.now (W.contents writer.new) }
 {
@@ -70,8 +72,8 @@ fn with_lf(alloc: Global, line: &[u8]) -> Result<Vec<u8>, AllocError>
     Ok(whole)
 }
 
-/// Reads a line of the host, and returns it without its LF. If the reader ends before an LF, the
-/// error is `Ended`.
+/// Reads a line of the host, and returns it without its LF. Returns `Ended` if the reader ends
+/// before an LF, and `Unread` if reading fails or an allocation does.
 fn next_answer<R: BufRead>(alloc: Global, reader: &mut R) -> Result<Vec<u8>, Silence>
     ensures answer { IfOk result (λ answer.
         Takes (R.remaining reader.old) answer.items (R.remaining reader.new)) }

@@ -40,8 +40,8 @@ pub trait Host {
     /// How it answers lines, and how it fails to.
     ghost answering: { HostWays state };
 
-    /// Does a line without its LF, and returns its answer, also without an LF. An error says why
-    /// there is no answer.
+    /// Does a line without its LF, and returns its answer, also without an LF. The line has no LF,
+    /// and isn't too long. An error says why there is no answer.
     fn ask(&mut self, line: &[u8]) -> Result<Answer, Silence>
         requires { IsLine line.now }
         ensures answer { IfOk result (λ answer.

@@ -59,28 +59,28 @@ pub trait Page {
     /// How it is heard and is sent messages, and how that fails.
     ghost speaking: { PageWays state };
 
-    /// Receives what the page sends next: a text, a sign of life, or nothing for too long. An error
-    /// says why nothing can be received any more.
+    /// Receives what the page sends next: a text, a ping or a pong, or nothing for too long. An
+    /// error says why nothing can be received any more.
     fn hear(&mut self) -> Result<PageInput, Unheard>
         ensures heard { IfOk result (λ said.
             speaking.hears (stands self.old) said (stands self.new)) }
         ensures unheard { IfErr result (λ why.
             speaking.unheard (stands self.old) why (stands self.new)) };
 
-    /// Sends the page a text.
+    /// Sends the page a text. An error says why it wasn't sent.
     fn send(&mut self, text: String) -> Result<(), Unsent>
         ensures sent { OnOk result
             (speaking.sends (stands self.old) (string_bytes text) (stands self.new)) }
         ensures unsent { IfErr result (λ why.
             speaking.unsent (stands self.old) (string_bytes text) why (stands self.new)) };
 
-    /// Sends the page a constant text. The text is not copied.
+    /// Sends the page a constant text. The text is not copied. An error says why it wasn't sent.
     fn send_fixed(&mut self, text: &'static str) -> Result<(), Unsent>
         ensures sent { OnOk result (speaking.sends (stands self.old) text.now (stands self.new)) }
         ensures unsent { IfErr result (λ why.
             speaking.unsent (stands self.old) text.now why (stands self.new)) };
 
-    /// Sends the page a ping.
+    /// Sends the page a ping. An error says why it wasn't sent.
     fn ping(&mut self) -> Result<(), Unsent>
         ensures sent { OnOk result (speaking.pings (stands self.old) (stands self.new)) }
         ensures unsent { IfErr result (λ why.

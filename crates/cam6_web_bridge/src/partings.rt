@@ -14,7 +14,7 @@ use crate::sockets::{Pace, Paced, SocketPage};
 use std::io::{Read, Write};
 use tungstenite::{CloseCode, CloseFrame, Error, MaskKeys, Utf8Bytes};
 
-/// Returns the close code and the reason that are sent to a page if its bridge ends so.
+/// Returns the close code and the reason, a text for the page, that are sent if its bridge ends so.
 pub fn farewell(end: End) -> (CloseCode, &'static str)
     ensures { (result.0, result.1.now) ≡ farewell_told end }
 {
@@ -79,7 +79,8 @@ pub fn farewell_away(why: Away) -> (CloseCode, &'static str)
 }
 
 impl<S: Read + Write + Paced + Drop, K: MaskKeys + Drop> SocketPage<S, K> {
-    /// Sends the page a WebSocket close with this code and reason.
+    /// Sends the page a WebSocket close with this code and reason. The socket takes no messages
+    /// afterwards.
     pub fn send_close(&mut self, code: CloseCode, reason: &'static str) -> Result<(), Error>
         ensures { OnOk result (Writes S.contents self.old.socket self.new.socket
             (close_step self.old.socket.conn (Some (code, reason.now)))) }

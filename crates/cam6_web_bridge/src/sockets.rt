@@ -35,7 +35,8 @@ pub enum Pace {
 /// A read fails with `WouldBlock` or `TimedOut` if nothing came in time, and with `HostUnreachable` if
 /// the host is gone meanwhile.
 pub trait Paced {
-    /// Sets what the next calls are for, and so how long they may take. This time begins now.
+    /// Sets what the next calls are for, and so how long they may take together. This time begins
+    /// now.
     fn pace(&self, pace: Pace);
 }
 
@@ -47,7 +48,7 @@ pub struct SocketPage<S, K> {
 
 impl<S: Drop> SocketPage<S, NoMask> {
     /// Makes the page at the other end of a stream. The stream's handshake is done, and `unread`
-    /// was read after it.
+    /// has the bytes that were read after it.
     pub fn new(alloc: Global, stream: S, unread: Vec<u8>) -> SocketPage<S, NoMask>
         ensures { IsNew stream unread.items result.socket }
     {
@@ -102,7 +103,8 @@ impl<S: Read + Write + Paced + Drop, K: MaskKeys + Drop> Page for SocketPage<S, 
     }
 }
 
-/// Sends what still waits to be sent, and hears what the page says next.
+/// Sends what still waits to be sent, and receives what the page sends next. If sending fails, the
+/// error is `Lost`.
 fn hear<S: Read + Write + Paced + Drop, K: MaskKeys + Drop>(
     socket: &mut WebSocket<S, K>,
 ) -> Result<PageInput, Unheard>
@@ -132,7 +134,8 @@ fn send_rest<S: Read + Write + Paced + Drop, K: MaskKeys + Drop>(
     }
 }
 
-/// Receives the next message of the page, and returns it as the page's input.
+/// Receives the next message of the page, and returns it as the page's input. An error says why
+/// nothing can be received any more.
 fn receive_message<S: Read + Write + Drop, K: MaskKeys + Drop>(
     socket: &mut WebSocket<S, K>,
 ) -> Result<PageInput, Unheard>
@@ -142,8 +145,8 @@ fn receive_message<S: Read + Write + Drop, K: MaskKeys + Drop>(
     meaning_of(read)
 }
 
-/// Returns what a read of the socket means: the page's input, or why nothing can be received any
-/// more.
+/// Returns what a read of the socket means: a text, life for a ping or a pong, or nothing if
+/// nothing came in time. All else is an error: why nothing can be received any more.
 fn meaning_of(read: Result<Message, Error>) -> Result<PageInput, Unheard>
     ensures { result ≡ what_is_meant read }
 {
@@ -157,7 +160,7 @@ fn meaning_of(read: Result<Message, Error>) -> Result<PageInput, Unheard>
     }
 }
 
-/// Returns what a read's error means: silence if nothing came in time, or else why nothing can be
+/// Returns what a read's error means: `Nothing` if nothing came in time, or else why nothing can be
 /// received any more.
 fn meaning_of_error(error: &Error) -> Result<PageInput, Unheard>
     ensures { result ≡ what_an_error_means error.now }
@@ -173,8 +176,8 @@ fn meaning_of_error(error: &Error) -> Result<PageInput, Unheard>
     }
 }
 
-/// Returns what a stream's error of this kind means: silence if nothing came in time, or else why
-/// nothing can be received any more.
+/// Returns what a stream's error of this kind means: `Nothing` for `WouldBlock` and `TimedOut`.
+/// `HostUnreachable` is the error `HostGone`, and any other kind is `Lost`.
 fn meaning_of_kind(kind: ErrorKind) -> Result<PageInput, Unheard>
     ensures { result ≡ what_a_kind_means kind }
 {
@@ -186,7 +189,8 @@ fn meaning_of_kind(kind: ErrorKind) -> Result<PageInput, Unheard>
     }
 }
 
-/// Sends the page a text, which is not copied. Returns why it wasn't sent, if so.
+/// Sends the page a text, which is not copied. An error says why it wasn't sent. It is `NoMemory`
+/// if an allocation fails.
 fn send_text<S: Read + Write + Paced + Drop, K: MaskKeys + Drop>(
     socket: &mut WebSocket<S, K>,
     text: String,
