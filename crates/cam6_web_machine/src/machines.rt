@@ -23,7 +23,7 @@ pub struct PrivateMachine {
 }
 
 impl PrivateMachine {
-    /// Makes a blank machine of this limit.
+    /// Makes a blank machine of this limit, the largest side that it can have.
     pub fn new(alloc: Global, limit: Side) -> Result<PrivateMachine, NoMemory>
         ensures { IfOk result (λ own. machine_of own.machine ≡ blank limit) }
     {
@@ -45,8 +45,9 @@ impl Host for PrivateMachine {
 
     ghost answering = { by_private_machine };
 
-    /// Does the command of a line, and returns the text of the machine's reply, without its LF.
-    /// Allocates nothing for an empty line and for one that is too long.
+    /// Does the command of a line, and returns the text of the machine's reply, without its LF. A
+    /// line that is no command has a fault as its answer. Allocates nothing for an empty line and
+    /// for one that is too long. The only error is `NoMemory`.
     fn ask(&mut self, line: &[u8]) -> Result<Answer, Silence> {
         match read_command(self.alloc, line) {
             Ok(command) => reply_to(self.alloc, &mut self.machine, command),
@@ -56,8 +57,8 @@ impl Host for PrivateMachine {
     }
 }
 
-/// Does a command, and returns the text of the machine's reply, without its LF. After an error the
-/// command may have been done.
+/// Does a command, and returns the text of the machine's reply, without its LF. The only error is
+/// `NoMemory`, and then the command may have been done.
 fn reply_to(alloc: Global, machine: &mut Machine, command: Command) -> Result<Answer, Silence>
     ensures text { IfOk result (λ answer.
         answer_bytes answer ≡ reply_bytes (reply (machine_of machine.old) command)) }
@@ -72,8 +73,8 @@ fn reply_to(alloc: Global, machine: &mut Machine, command: Command) -> Result<An
     }
 }
 
-/// Returns the text of a reply, without its LF. Allocates nothing for a reply that only says what was
-/// done.
+/// Returns the text of a reply, without its LF. Allocates nothing for a reply that only says what
+/// was done. The only error is `NoMemory`.
 fn answer_of(alloc: Global, reply: &Reply) -> Result<Answer, Silence>
     ensures text { IfOk result (λ answer. answer_bytes answer ≡ reply_bytes reply.now) }
     ensures silence { IfErr result (λ silence. IsUntold reply.now silence) }
