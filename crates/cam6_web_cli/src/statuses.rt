@@ -13,7 +13,8 @@ pub enum Fault {
     Network,
 }
 
-/// Returns the exit status of a server that can't go on, and its line for standard error.
+/// Returns the exit status of a server that can't go on, and its line, with its LF, for standard
+/// error.
 pub fn fault_of(fault: Fault) -> (u8, &'static str)
     ensures { (result.0, result.1.now) ≡ fault_told fault }
 {

@@ -30,8 +30,9 @@ pub enum Unaddressed {
     NoMemory,
 }
 
-/// Parses the words of an option as addresses, in order. Returns none without the option, and
-/// `NoAddress` if a word isn't an address and a port.
+/// Parses the words of an option as addresses, in order. Returns no addresses without the option.
+/// Returns `NoAddress` if a word isn't an IP address and a port, and `NoMemory` if an allocation
+/// fails.
 pub fn addresses_by(alloc: Global, words: Option<&[&str]>) -> Result<Vec<SocketAddr>, Unaddressed>
     ensures addresses { IfOk result (λ addresses.
         AreAddresses (given (option_map (λ words. texts words.now) words.entry)) addresses.items) }
@@ -45,7 +46,8 @@ pub fn addresses_by(alloc: Global, words: Option<&[&str]>) -> Result<Vec<SocketA
     }
 }
 
-/// Parses words as addresses, in order. Returns `NoAddress` if a word isn't an address and a port.
+/// Parses words as addresses, in order. Returns `NoAddress` if a word isn't an IP address and a
+/// port, and `NoMemory` if an allocation fails.
 fn addresses_of(alloc: Global, words: &[&str]) -> Result<Vec<SocketAddr>, Unaddressed>
     ensures addresses { IfOk result (λ addresses. AreAddresses (texts words.now) addresses.items) }
     ensures none { IfErr result (λ why. why ≡ Unaddressed.NoAddress →
@@ -65,7 +67,7 @@ fn addresses_of(alloc: Global, words: &[&str]) -> Result<Vec<SocketAddr>, Unaddr
     Ok(addresses)
 }
 
-/// Returns copies of the words of an option, in order. Returns none without the option.
+/// Returns copies of the words of an option, in order. Returns no words without the option.
 pub fn copied_by(alloc: Global, words: Option<&[&str]>) -> Result<Vec<String>, AllocError>
     ensures { IfOk result (λ copies. map string_bytes copies.items
         ≡ given (option_map (λ words. texts words.now) words.entry)) }

@@ -57,8 +57,8 @@ pub fn options_of_web(alloc: Global, words: &[String]) -> Result<Options, Refuse
     }
 }
 
-/// Returns the options that clap's matches have, or why the arguments are refused, with a line for
-/// the user.
+/// Returns the options that clap's matches have. If a value is wrong, returns the refusal with a
+/// line for the user. Returns `Refused::NoMemory` if an allocation fails.
 fn read_matches(alloc: Global, matches: &ArgMatches<'_>) -> Result<Options, Refused>
     ensures asked { IfOk result (λ options.
         HasOptions options (asked_by (rows_of (found_of matches.now)))) }
@@ -76,15 +76,16 @@ fn read_matches(alloc: Global, matches: &ArgMatches<'_>) -> Result<Options, Refu
     }
 }
 
-/// Returns the refusal of arguments with a value that is wrong, with a line that names it.
+/// Returns the refusal of arguments with a value that is wrong, with a line that names it. It is
+/// `Refused::NoMemory` if an allocation for the line fails.
 fn refuse_value(alloc: Global, unsaid: Unsaid) -> Refused
     ensures { IsRefusal result }
 {
     refusal_of_text(format!(in alloc; "cam6_web: {unsaid}\n"))
 }
 
-/// Returns the options with these numbers, and the words at `--host` and at `--name`. Refuses them
-/// if a word at `--host` is no address.
+/// Returns the options with these numbers, and the words at `--host` and at `--name`, or `None`
+/// without them. Refuses them if a word at `--host` is no address, or if an allocation fails.
 fn with_lists(
     alloc: Global,
     numbers: Numbers,
@@ -126,7 +127,8 @@ pub(crate) struct Numbers {
     pub(crate) requests: u64,
 }
 
-/// Returns the options that are numbers, from clap's matches, or the first one that is wrong.
+/// Returns the options that are numbers, from clap's matches, or the first one that is wrong. An
+/// option that isn't there has its default.
 fn numbers_asked(matches: &ArgMatches<'_>) -> Result<Numbers, Unsaid>
     ensures { result_ok result ≡ numbers_at (rows_of (found_of matches.now)) }
 {
@@ -138,7 +140,8 @@ fn numbers_asked(matches: &ArgMatches<'_>) -> Result<Numbers, Unsaid>
     )
 }
 
-/// Collects these four numbers, or returns the error for the first that is missing.
+/// Collects these four numbers, or returns the error for the first that is `None`. The port is from
+/// 1 to 65535, and `connections` from 1 to 1000.
 fn collect_numbers(
     port: Option<u64>,
     connections: Option<u64>,
