@@ -55,7 +55,7 @@ pub struct Link<'a, R: Clock> {
 
 impl<'a, R: Clock> Link<'a, R> {
     /// Makes the link of a connection, without a host. The client's request has to come, and be
-    /// answered, within ten seconds.
+    /// answered, within ten seconds. Fails if the clock does.
     pub fn new(clock: &'a R, stream: &'a TcpStream) -> io::Result<Link<'a, R>> {
         // Answers are sent even if the socket can't be set to send them at once.
         let _ = stream.set_nodelay(true);
@@ -68,7 +68,8 @@ impl<'a, R: Clock> Link<'a, R> {
     }
 
     /// Returns whether the client's request begins as one for a socket. Waits until enough of it
-    /// has come to tell. Returns false if the time is over before.
+    /// has come to tell, and leaves it to be read. Returns false if the time is over before, or if
+    /// the connection ends or fails.
     pub fn asks_for_socket(&self) -> bool {
         let mut begin = [0; SOCKET_BEGIN.len()];
         for _ in 0..LOOKS {
@@ -88,7 +89,8 @@ impl<'a, R: Clock> Link<'a, R> {
     }
 
     /// Copies the next bytes of the client, and leaves them for the next read. Waits for at least
-    /// one byte, and returns how many there are. 0 means that the connection has ended.
+    /// one byte, and returns how many there are. 0 means that the connection has ended. Fails with
+    /// `TimedOut` once the time is over.
     fn peek(&self, bytes: &mut [u8]) -> io::Result<usize>
         ensures { IfOk result (λ count. count ≤ length bytes.new) }
     {
@@ -103,7 +105,8 @@ impl<'a, R: Clock> Link<'a, R> {
         Err(Error::from(ErrorKind::TimedOut))
     }
 
-    /// Returns a link of the same connection that also watches the host's stream.
+    /// Returns a link of the same connection that also watches the host's stream. It has the same
+    /// time left, which is then its own.
     pub fn with_host<'b>(&'b self, host: &'b TcpStream) -> Link<'b, R> {
         Link {
             clock: self.clock,
@@ -113,7 +116,7 @@ impl<'a, R: Clock> Link<'a, R> {
         }
     }
 
-    /// Fails with `HostUnreachable` if there is a host and it is gone.
+    /// Fails with `HostUnreachable` if there is a host and it is gone. Doesn't wait.
     fn look(&self) -> io::Result<()> {
         match self.host {
             Some(host) if has_ended(host) => Err(Error::from(ErrorKind::HostUnreachable)),
@@ -121,7 +124,8 @@ impl<'a, R: Clock> Link<'a, R> {
         }
     }
 
-    /// Gives all calls from here on together this many seconds.
+    /// Gives all calls from here on together this many seconds, from now. If the clock fails, their
+    /// time stays as it was.
     fn allow(&self, seconds: u64) {
         // A clock that fails leaves the time as it was.
         if let Ok(deadline) = deadline_in(self.clock, seconds) {
@@ -129,8 +133,9 @@ impl<'a, R: Clock> Link<'a, R> {
         }
     }
 
-    /// Shuts the sending side, and drops what the client still sends for a while. A socket that is
-    /// closed with unread bytes resets the connection, and the client may lose its last answer.
+    /// Shuts the sending side, and drops what the client still sends: at most two seconds, and
+    /// about 4 MB. A socket that is closed with unread bytes resets the connection, and the client
+    /// may lose its last answer. Fails if the connection does, or if the time is over.
     pub fn shut_down(&self) -> io::Result<()> {
         self.stream.shutdown(Shutdown::Write)?;
         self.allow(DRAIN_SECONDS);
@@ -148,13 +153,14 @@ impl<'a, R: Clock> Link<'a, R> {
 }
 
 impl<R: Clock> Paced for &Link<'_, R> {
-    /// Gives all calls from here on together the seconds of this pace.
+    /// Gives all calls from here on together the seconds of this pace, from now.
     fn pace(&self, pace: Pace) {
         self.allow(seconds_of(pace));
     }
 }
 
-/// Returns how many seconds calls of this pace may take together.
+/// Returns how many seconds calls of this pace may take together: 30 to receive, 60 to send, and 5
+/// for a close.
 fn seconds_of(pace: Pace) -> u64 {
     match pace {
         Pace::Listening => SILENT_SECONDS,
@@ -164,8 +170,9 @@ fn seconds_of(pace: Pace) -> u64 {
 }
 
 impl<R: Clock> Read for &Link<'_, R> {
-    /// Reads bytes of the client. While it waits, checks once a second that the host is still
-    /// there.
+    /// Reads bytes of the client, and returns how many; 0 means that the connection has ended.
+    /// While it waits, checks once a second that the host is still there. Fails with
+    /// `HostUnreachable` if it isn't, and with `TimedOut` once the time is over.
     fn read(&mut self, bytes: &mut [u8]) -> io::Result<usize> {
         let mut stream = self.stream;
         for _ in 0..TRIES {
@@ -181,8 +188,8 @@ impl<R: Clock> Read for &Link<'_, R> {
 }
 
 impl<R: Clock> Write for &Link<'_, R> {
-    /// Writes bytes to the client. Writes again if a signal interrupts it. Fails after 1,000 tries,
-    /// or once the time is over.
+    /// Writes bytes to the client, and returns how many it took. Writes again if a signal
+    /// interrupts it. Fails after 1,000 tries, or once the time is over.
     fn write(&mut self, bytes: &[u8]) -> io::Result<usize> {
         let mut stream = self.stream;
         for _ in 0..TRIES {
@@ -202,7 +209,7 @@ impl<R: Clock> Write for &Link<'_, R> {
     }
 }
 
-/// Returns whether a read that failed so is tried again.
+/// Returns whether a read that failed so is tried again: for `Interrupted` and `WouldBlock`.
 fn is_retried(kind: ErrorKind) -> bool {
     match kind {
         ErrorKind::Interrupted => true,
@@ -227,7 +234,8 @@ fn has_ended(host: &TcpStream) -> bool {
     }
 }
 
-/// Returns the instant that is this many seconds from now.
+/// Returns the instant that is this many seconds from now. Fails if the clock does, or with
+/// `TimedOut` if there is no such instant.
 fn deadline_in(clock: &impl Clock, seconds: u64) -> io::Result<Instant> {
     match Instant::now(clock)?.checked_add(Duration::from_secs(seconds)) {
         Some(deadline) => Ok(deadline),
@@ -235,7 +243,7 @@ fn deadline_in(clock: &impl Clock, seconds: u64) -> io::Result<Instant> {
     }
 }
 
-/// Returns the time until `deadline`. Fails with `TimedOut` if none is left.
+/// Returns the time until `deadline`. Fails with `TimedOut` if none is left, or if the clock fails.
 fn time_left(clock: &impl Clock, deadline: Instant) -> io::Result<Duration> {
     let left = deadline.saturating_duration_since(Instant::now(clock)?);
     if left.is_zero() {

@@ -18,8 +18,9 @@ const PAUSE: u64 = 20;
 /// How many failures are not reported after one that is: those of a minute.
 const QUIET: u32 = 3_000;
 
-/// Answers the connections of a listener. Closes it after as many as `options` say, and waits until
-/// all connections are over. Fails only before the first connection is accepted.
+/// Answers the connections of a listener. Closes it after as many as `options.requests` says, or
+/// never for 0, and waits until all connections are over. Fails only with `NoMemory`, before the
+/// first connection is accepted.
 ///
 /// Accepting fails if the system has no file left, for example. The server then tries again without
 /// end, and reports that on standard error once a minute.
@@ -54,8 +55,8 @@ fn open<R: Handle>(rt: R, options: Options) -> Result<Arc<ServerState<R>>, Alloc
     Ok(Arc::new(alloc, server)?)
 }
 
-/// Accepts `requests` connections, or connections without end if the number is 0. Then closes the
-/// listener.
+/// Accepts `requests` connections, or connections without end if the number is 0. Starts a thread
+/// for each. Then closes the listener, and doesn't wait for the threads.
 fn accept<
     R: Handle + Net<Listener = TcpListener, Stream = TcpStream> + Eprint + Send + Sync + 'static,
 >(rt: R, server: &Arc<ServerState<R>>, listener: TcpListener, requests: u64) {

@@ -28,18 +28,19 @@ pub struct ServerState<R: Handle> {
 
 impl<R: Handle> ServerState<R> {
     /// Counts one more connection that waits for an answer. Returns false, and counts nothing, if
-    /// there is no room for one.
+    /// as many wait already as may.
     pub fn enter(&self) -> bool {
         self.visitors.lock(&self.rt).enter()
     }
 
-    /// Counts a connection that waited as one with a socket. Returns false, and counts nothing, if
-    /// there is no room for a socket.
+    /// Counts a connection that waited as one with a socket. Returns false, and changes nothing, if
+    /// there are as many sockets already as may be.
     pub fn open(&self) -> bool {
         self.visitors.lock(&self.rt).open()
     }
 
-    /// Removes a connection that was counted so, and notifies `left` if it was the last one.
+    /// Removes a connection that was counted in this state, and notifies `left` if it was the last
+    /// one.
     pub fn leave(&self, standing: ClientState) {
         let mut visitors = self.visitors.lock(&self.rt);
         visitors.leave(standing);

@@ -49,7 +49,7 @@ impl Visitors {
     }
 
     /// Counts one more connection that waits for an answer. Returns false, and counts nothing, if
-    /// there is no room for one.
+    /// `MOST_GREETED` of them wait already.
     pub fn enter(&mut self) -> bool
         ensures { Enters self.old result self.new }
     {
@@ -60,8 +60,8 @@ impl Visitors {
         true
     }
 
-    /// Counts a connection that waited as one with a socket. Returns false, and counts nothing, if
-    /// there is no room for a socket.
+    /// Counts a connection that waited as one with a socket. Returns false, and changes nothing, if
+    /// there are `room` sockets already.
     pub fn open(&mut self) -> bool
         ensures { Opens self.old result self.new }
     {
@@ -73,7 +73,7 @@ impl Visitors {
         true
     }
 
-    /// Removes a connection that was counted so.
+    /// Removes a connection that was counted in this state. A count of 0 stays.
     pub fn leave(&mut self, standing: ClientState)
         ensures { Leaves standing self.old self.new }
     {

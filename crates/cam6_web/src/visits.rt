@@ -39,8 +39,8 @@ pub fn receive<R: Handle + Net<Listener = TcpListener, Stream = TcpStream> + Sen
     }
 }
 
-/// Starts the thread that answers a connection, which nobody joins. Returns `None` if there is no
-/// thread or no memory for it.
+/// Starts the thread that answers a connection, which nobody joins. Returns `None`, and closes the
+/// connection, if there is no thread or no memory for it.
 fn start_connection_thread<
     R: Handle + Net<Listener = TcpListener, Stream = TcpStream> + Send + Sync + 'static,
 >(server: &Arc<ServerState<R>>, stream: TcpStream) -> Option<()> {
@@ -51,7 +51,7 @@ fn start_connection_thread<
     Some(())
 }
 
-/// Answers a connection, closes it, and then frees its place in the counts.
+/// Answers a connection, closes it, and then removes it from the counts.
 fn attend<R: Handle + Net<Listener = TcpListener, Stream = TcpStream>>(
     server: &ServerState<R>,
     stream: TcpStream,
@@ -61,11 +61,11 @@ fn attend<R: Handle + Net<Listener = TcpListener, Stream = TcpStream>>(
     server.leave(standing);
 }
 
-/// Answers a connection to its end. Returns how it is counted then: as one that waits for an
-/// answer, or as one with a socket.
+/// Answers a connection to its end, and doesn't close it. Returns how it is counted then: as one
+/// that waits for an answer, or as one with a socket.
 ///
-/// A request for a socket has its place before it is answered, so that the answer says whether
-/// there is room.
+/// A request for a socket is counted before it is answered, so that the answer says whether there
+/// is room.
 fn visit<'a, R: Handle + Net<Listener = TcpListener, Stream = TcpStream>>(
     server: &'a ServerState<R>,
     stream: &'a TcpStream,
@@ -89,7 +89,8 @@ fn visit<'a, R: Handle + Net<Listener = TcpListener, Stream = TcpStream>>(
 }
 
 /// Answers the requests of a connection. Returns where its socket leads, and the bytes read after
-/// the handshake, if the last answer opened a socket. `has_room` says whether one may be opened.
+/// the handshake, if the last answer opened a socket. Otherwise returns `None`. `has_room` says
+/// whether one may be opened. Fails as `greet` does.
 fn answer_requests<R: Handle>(
     server: &ServerState<R>,
     link: &Link<'_, R>,
@@ -101,7 +102,7 @@ fn answer_requests<R: Handle>(
 }
 
 /// Carries the messages of a page to its own machine or to a host, as its socket leads, until the
-/// bridge ends.
+/// bridge ends. If neither can be had, turns the page away.
 fn converse<R: Handle + Net<Listener = TcpListener, Stream = TcpStream>>(
     server: &ServerState<R>,
     link: &Link<'_, R>,
@@ -115,7 +116,7 @@ fn converse<R: Handle + Net<Listener = TcpListener, Stream = TcpStream>>(
 }
 
 /// Carries the messages of a page to a machine of its own, until the bridge ends. If there is no
-/// memory for one, turns the page away.
+/// memory for one, turns the page away. `unread` has the bytes that were read after the handshake.
 fn bridge_to_machine<R: Handle>(server: &ServerState<R>, link: &Link<'_, R>, unread: Vec<u8>) {
     let alloc = server.rt.alloc();
     match PrivateMachine::new(alloc, server.limit) {
@@ -126,8 +127,9 @@ fn bridge_to_machine<R: Handle>(server: &ServerState<R>, link: &Link<'_, R>, unr
     }
 }
 
-/// Carries the messages of a page to the host of this number, until the bridge ends. If it can't be
-/// reached, turns the page away.
+/// Carries the messages of a page to the host of this number, counted from 1, until the bridge
+/// ends. Turns the page away if the host can't be reached, or if memory runs out. `unread` has the
+/// bytes that were read after the handshake.
 fn bridge_to_host<R: Handle + Net<Listener = TcpListener, Stream = TcpStream>>(
     server: &ServerState<R>,
     link: &Link<'_, R>,
@@ -145,7 +147,8 @@ fn bridge_to_host<R: Handle + Net<Listener = TcpListener, Stream = TcpStream>>(
     bridge(alloc, &link.with_host(&stream), unread, &mut host);
 }
 
-/// Connects to the host of this number, counted from 1, within ten seconds. Returns the stream.
+/// Connects to the host of this number, counted from 1, within ten seconds. Returns the stream,
+/// whose reads and writes have time limits. Fails with `NotFound` if there is no such host.
 fn reach<R: Handle + Net<Listener = TcpListener, Stream = TcpStream>>(
     server: &ServerState<R>,
     number: usize,
