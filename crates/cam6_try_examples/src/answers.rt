@@ -9,7 +9,7 @@ pub fn add_line(answers: &mut Vec<u8>, line: &str) -> io::Result<()> {
     Ok(())
 }
 
-/// Returns the error of a failed allocation.
+/// Returns the error `OutOfMemory` of a failed allocation.
 pub fn no_memory() -> io::Error {
     io::Error::from(io::ErrorKind::OutOfMemory)
 }

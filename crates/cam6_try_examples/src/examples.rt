@@ -57,8 +57,8 @@ pub fn read_example<W: Way>(
 }
 
 impl<W: Way> Reading<W> {
-    /// Reads all lines of an example. An error has the number of the first line that can't be
-    /// played, counted from 1, and why.
+    /// Reads all lines of an example, and stores their parts and names. An error has the number of
+    /// the first line that can't be played, counted from 1, and why.
     fn read_lines(&mut self, alloc: Global, text: &str) -> Result<(), (usize, Unplayable)> {
         let mut lines: usize = 0;
         for line in text.split('\n') {
@@ -69,7 +69,8 @@ impl<W: Way> Reading<W> {
     }
 
     /// Reads one line of an example, by the mark at its front: `as`, `let`, `>`, `>>` or `<`. Blank
-    /// lines and remarks (`#`) do nothing.
+    /// lines and remarks (`#`) do nothing. Any other mark is an error, and so is a line that its
+    /// mark can't have.
     fn read_line(&mut self, alloc: Global, line: &str) -> Result<(), Unplayable> {
         let (mark, rest) = line.split_once(' ').unwrap_or((line, ""));
         match mark {
@@ -84,6 +85,7 @@ impl<W: Way> Reading<W> {
     }
 
     /// Begins a part of the example, which is played in the way that the words after `as` say.
+    /// Fails if they are no way.
     fn begin_part(&mut self, alloc: Global, way: &str) -> Result<(), Unplayable> {
         let part = Part {
             way: W::read(alloc, way)?,
@@ -93,12 +95,13 @@ impl<W: Way> Reading<W> {
         Ok(self.parts.push(part)?)
     }
 
-    /// Returns the part that is being read. It is an error if no `as` came before.
+    /// Returns the part that is being read, the last one. It is an error if no `as` came before.
     fn current_part(&mut self) -> Result<&mut Part<W>, Unplayable> {
         self.parts.last_mut().ok_or(Unplayable::Unread)
     }
 
-    /// Reads `NAME TEXT` after `let`, and stores the text under this name.
+    /// Reads `NAME TEXT` after `let`, and stores the text, with its marks written out, under this
+    /// name. It is an error if there is no space, or if a mark is wrong.
     fn name(&mut self, alloc: Global, rest: &str) -> Result<(), Unplayable> {
         let (name, text) = rest.split_once(' ').ok_or(Unplayable::Unread)?;
         let bytes = written_out(alloc, text, self.named.as_slice())?;
@@ -106,8 +109,8 @@ impl<W: Way> Reading<W> {
         Ok(self.named.push(Named { name, bytes })?)
     }
 
-    /// Reads what stands after `>`, and adds the line to those that the part sends. What stands
-    /// after an arrow, `=>`, must come back.
+    /// Reads what stands after `>`, and adds the line, with its marks written out, to those that
+    /// the part sends. What stands after the last arrow, ` => `, must come back as a line.
     fn send(&mut self, alloc: Global, rest: &str) -> Result<(), Unplayable> {
         match rest.rsplit_once(" => ") {
             Some((sent, wanted)) => {
@@ -119,13 +122,15 @@ impl<W: Way> Reading<W> {
     }
 
     /// Adds a text to those that the part sends, with its marks written out. `has_end` says whether
-    /// it ends as a line.
+    /// it is sent with an LF at its end. It is an error if no `as` came before, or if a mark is
+    /// wrong.
     fn send_text(&mut self, alloc: Global, text: &str, has_end: bool) -> Result<(), Unplayable> {
         let bytes = written_out(alloc, text, self.named.as_slice())?;
         Ok(self.current_part()?.sent.push(Sent { bytes, has_end })?)
     }
 
-    /// Reads what stands after `<`, and adds the line to those that must come back.
+    /// Reads what stands after `<`, and adds the line, with its marks written out and an LF, to
+    /// those that must come back. It is an error if no `as` came before, or if a mark is wrong.
     fn want(&mut self, alloc: Global, text: &str) -> Result<(), Unplayable> {
         let mut line = written_out(alloc, text, self.named.as_slice())?;
         line.push(b'\n')?;

@@ -10,20 +10,20 @@ use std::fs::Files;
 use std::process::ExitCode;
 use std::{fs, io};
 
-/// Plays the examples that the program's arguments name, and returns the exit status.
+/// Plays the examples that the program's arguments name. Returns the exit status: success if all
+/// files are well. Fails if a file can't be read, if playing it fails, or if printing does.
 ///
 /// The arguments name files, for example `parity.example`. Each is played in the ways that it says,
 /// and a line reports whether all came back byte for byte. A file with a name that begins with
-/// `wrong_` has one answer that is wrong on purpose. What is printed of it shows that answers are
-/// compared.
+/// `wrong_` has one answer that is wrong on purpose, and is well if not all came back.
 pub fn play<W: Played, R: Env + Files + Print + AllocGlobal>(rt: &R) -> io::Result<ExitCode> {
     let alloc = rt.alloc();
     play_with(rt, &|way: &W, sent: &[Sent]| way.played(alloc, sent))
 }
 
 /// Plays the examples that the program's arguments name, as `play` does, but the closure `played`
-/// gives what comes back for a part's lines. The closure may use all of the handle that it has, for
-/// example to start threads.
+/// gives what comes back for a part's lines. Each text that it returns must be what is wanted. The
+/// closure may use all of the handle that it has, for example to start threads.
 pub fn play_with<
     W: Way,
     R: Env + Files + Print + AllocGlobal,
@@ -42,7 +42,7 @@ pub fn play_with<
 }
 
 /// Reads the file of an example, and returns its parts. If a line can't be played, prints this and
-/// returns `None`.
+/// returns `None`. Fails if the file can't be read, or if memory runs out.
 fn parts_of<W: Way, R: Files + Print + AllocGlobal>(
     rt: &R,
     name: &str,
@@ -58,8 +58,8 @@ fn parts_of<W: Way, R: Files + Print + AllocGlobal>(
     }
 }
 
-/// Plays the examples in these files. Returns whether all lines came back, except for the examples
-/// that are wrong on purpose.
+/// Plays the examples in these files. Returns whether all are well, as `play_file` says. It is true
+/// if there are no files.
 fn play_files<
     W: Way,
     R: Files + Print + AllocGlobal,
@@ -74,8 +74,8 @@ fn play_files<
     Ok(is_well)
 }
 
-/// Plays the example in a file. Returns whether all its lines came back. If it is wrong on purpose,
-/// returns whether not all did.
+/// Plays the example in a file. Returns whether all its lines came back. If its name begins with
+/// `wrong_`, returns whether not all did. Returns false if a line of it can't be played.
 fn play_file<
     W: Way,
     R: Files + Print + AllocGlobal,
@@ -90,8 +90,8 @@ fn play_file<
     }
 }
 
-/// Plays the parts of an example. Prints and returns whether all lines came back that must. It is
-/// false if there are none.
+/// Plays the parts of an example, up to the first line that isn't what is wanted. Prints and
+/// returns whether all lines came back that must. It is false if none must.
 fn show<W: Way, R: Print + AllocGlobal, F: Fn(&W, &[Sent]) -> io::Result<Vec<Vec<u8>>>>(
     rt: &R,
     name: &str,
@@ -135,8 +135,8 @@ fn first_other_of_all(answers: Vec<Vec<u8>>, wanted: &[u8]) -> Option<usize> {
     None
 }
 
-/// Returns the number of the first line, counted from 1, in which two texts differ. Returns `None`
-/// if they are equal.
+/// Returns the number of the first line, counted from 1, in which two texts differ. A text that
+/// ends earlier differs at its end. Returns `None` if they are equal.
 fn first_other(answers: &[u8], wanted: &[u8]) -> Option<usize> {
     if answers == wanted {
         return None;

@@ -11,7 +11,8 @@ pub struct Named {
 }
 
 /// Adds a text to `bytes`, with its marks written out. `«8193* »` is so many spaces, `«x C2 A0»`
-/// two bytes, `«9*x 0A»` nine LFs, and `«NAME»` the text of this name.
+/// two bytes, `«9*x 0A»` nine LFs, and `«NAME»` the text of this name. It is an error if a mark has
+/// no `»`, a wrong number or digits, or no known name.
 pub fn write_out(bytes: &mut Vec<u8>, text: &str, named: &[Named]) -> Result<(), Unplayable> {
     for (i, piece) in text.split('«').enumerate() {
         if i == 0 {
@@ -27,15 +28,16 @@ pub fn write_out(bytes: &mut Vec<u8>, text: &str, named: &[Named]) -> Result<(),
     Ok(())
 }
 
-/// Returns the bytes of a text with its marks written out, as `write_out` adds them.
+/// Returns the bytes of a text with its marks written out, as `write_out` adds them. Fails as it
+/// does.
 pub fn written_out(alloc: Global, text: &str, named: &[Named]) -> Result<Vec<u8>, Unplayable> {
     let mut bytes = Vec::new(alloc);
     write_out(&mut bytes, text, named)?;
     Ok(bytes)
 }
 
-/// Adds what one mark, without its brackets, stands for: a repeated text, bytes by their digits, or
-/// a named text.
+/// Adds what one mark, without its brackets, stands for: a repeated text, a named text, or bytes by
+/// their digits, in this order. Any other mark is an error.
 fn write_mark(bytes: &mut Vec<u8>, mark: &str, named: &[Named]) -> Result<(), Unplayable> {
     if let Some((times, text)) = mark.split_once('*') {
         let times: u32 = times.parse().map_err(|_| Unplayable::Unread)?;
@@ -51,7 +53,8 @@ fn write_mark(bytes: &mut Vec<u8>, mark: &str, named: &[Named]) -> Result<(), Un
     }
 }
 
-/// Adds a text to `bytes`. A text that begins with `x ` has the bytes' hexadecimal digits.
+/// Adds a text to `bytes`. If it begins with `x `, the rest is hexadecimal numbers of bytes, with
+/// one space between them. Any other rest is an error.
 fn write_piece(bytes: &mut Vec<u8>, text: &str) -> Result<(), Unplayable> {
     let Some(digits) = text.strip_prefix("x ") else {
         return Ok(bytes.extend_from_slice(text.as_bytes())?);

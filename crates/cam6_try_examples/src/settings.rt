@@ -5,7 +5,8 @@ use crate::faults::Unplayable;
 use cam6_planes::Side;
 use cam6_wiring::{Half, Hood, Minor, Wiring};
 
-/// Returns the limit in `within NUMBER`, or 256 for an empty text.
+/// Returns the limit in `within NUMBER`, the number of a side, or 256 for an empty text. Any other
+/// text is an error.
 pub fn limit_of(text: &str) -> Result<Side, Unplayable> {
     if text.is_empty() {
         return Ok(Side::S256);
@@ -13,12 +14,12 @@ pub fn limit_of(text: &str) -> Result<Side, Unplayable> {
     side_of(text.strip_prefix("within ").ok_or(Unplayable::Unread)?)
 }
 
-/// Returns the side of this number. Any other text is an error.
+/// Returns the side of this number, in decimal. Any other text is an error.
 pub fn side_of(number: &str) -> Result<Side, Unplayable> {
     Side::named(number).ok_or(Unplayable::Unread)
 }
 
-/// Returns the number that a text has, from 1 to `most`. Any other text is an error.
+/// Returns the decimal number that a text has, from 1 to `most`. Any other text is an error.
 pub fn size_of(text: &str, most: usize) -> Result<usize, Unplayable>
     ensures { IfOk result (λ size. (0 < size) × (size ≤ most)) }
 {
@@ -40,7 +41,7 @@ pub fn wiring_of(text: &str) -> Result<Wiring, Unplayable> {
 }
 
 /// Returns the wiring of a text that begins with `HALF HOOD MINOR`, and what comes after the next
-/// space. Returns `None` for any other text.
+/// space, or nothing. Returns `None` for any other text.
 pub fn wiring_before(text: &str) -> Option<(Wiring, &str)> {
     let (half, rest) = text.split_once(' ')?;
     let (hood, rest) = rest.split_once(' ')?;

@@ -13,7 +13,7 @@ pub trait Way: Drop {
 
 /// A way that needs nothing but memory to be played. `play_with` is for ways that need more.
 pub trait Played: Way {
-    /// Plays the lines in this way. Returns what comes back, once for each way in. Each must be
-    /// what is wanted.
+    /// Plays the lines in this way. Returns what comes back, one text for each time that they are
+    /// played. Each must be what is wanted.
     fn played(&self, alloc: Global, sent: &[Sent]) -> io::Result<Vec<Vec<u8>>>;
 }
