@@ -6,7 +6,8 @@ use cam6_wiring::Wiring;
 use serde_json::{Value, json};
 use std::alloc::{AllocError, Global};
 
-/// Returns the line that is read as this command, without its LF.
+/// Returns the plainest line that is read as this command, without its LF: compact, its keys in
+/// byte order, its digits small.
 pub fn line_of(alloc: Global, command: &Command) -> Result<String, AllocError> {
     match command {
         Command::Set { plane, row, bits } => set_line(alloc, *plane, *row, bits.as_slice()),
@@ -30,12 +31,14 @@ pub fn line_of(alloc: Global, command: &Command) -> Result<String, AllocError> {
     }
 }
 
-/// Returns the JSON text of a value as a line without its LF.
+/// Returns the JSON text of a value as a line without its LF. Returns the error that `value` is, if
+/// it is one.
 fn line(alloc: Global, value: Result<Value, AllocError>) -> Result<String, AllocError> {
     value?.to_string(alloc)
 }
 
-/// Returns the line of a `set` command, with its bits in hexadecimal digits.
+/// Returns the line of a `set` command, without its LF. Its bits are two small hexadecimal digits
+/// for each of these bytes, the upper four bits first.
 fn set_line(alloc: Global, plane: u64, row: u64, bits: &[u8]) -> Result<String, AllocError> {
     let bits = hex::encode(alloc, bits)?;
     format!(in alloc; r#"{{"bits":"{bits}","do":"set","plane":{plane},"row":{row}}}"#)

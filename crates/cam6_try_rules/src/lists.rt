@@ -29,7 +29,8 @@ pub struct Sizes {
 
 impl Sizes {
     /// Reads `USERS BOARDS TABLES`, or this and `within LIMIT ..`. There is one limit for all
-    /// users, or one for each. Without `within` each limit is 256.
+    /// users, or one for each. Without `within` each limit is 256. Any other words are an error,
+    /// and so is a number that is 0 or more than a core may have.
     pub fn read(alloc: Global, words: &str) -> Result<Sizes, Unplayable> {
         let (sizes, limits) = words.split_once(" within ").unwrap_or((words, "256"));
         let (users, sizes) = sizes.split_once(' ').ok_or(Unplayable::Unread)?;
@@ -42,8 +43,8 @@ impl Sizes {
         })
     }
 
-    /// Does the events that lines have in a new core of these sizes. Returns the line of each
-    /// outcome.
+    /// Does the events that lines have in a new core of these sizes. Leaves out lines that are no
+    /// event. Returns the line of each outcome, with its LF.
     pub fn outcomes(&self, alloc: Global, sent: &[Sent]) -> io::Result<Vec<u8>> {
         let mut core = self.core(alloc).map_err(|_| no_memory())?;
         outcomes_at(alloc, &mut core, sent)
@@ -57,7 +58,8 @@ impl Sizes {
 }
 
 /// Returns a limit for each of so many users. A text with one number gives this limit to all.
-/// Otherwise it has as many numbers as there are users.
+/// Otherwise it has as many numbers as there are users, with one space between them. Any other text
+/// is an error.
 fn limits_of(alloc: Global, users: usize, text: &str) -> Result<Vec<Side>, Unplayable>
     ensures { IfOk result (λ limits. length limits.items ≡ users) }
 {
@@ -74,7 +76,8 @@ fn limits_of(alloc: Global, users: usize, text: &str) -> Result<Vec<Side>, Unpla
     Ok(limits)
 }
 
-/// Does the events that lines have in this core. Returns the line of each outcome.
+/// Does the events that lines have in this core. Leaves out lines that are no event. Returns the
+/// line of each outcome, with its LF.
 fn outcomes_at(alloc: Global, core: &mut Core, sent: &[Sent]) -> io::Result<Vec<u8>> {
     let events = events_of(alloc, sent).map_err(|_| no_memory())?;
     let outcomes = run(alloc, core, events).map_err(|_| no_memory())?;
@@ -86,16 +89,18 @@ fn outcomes_at(alloc: Global, core: &mut Core, sent: &[Sent]) -> io::Result<Vec<
     Ok(answers)
 }
 
-/// Does the events of lines as one list in a new core, and prints the line of each outcome. Begins
-/// again if an allocation fails, up to ten times in all.
+/// Does the events of lines as one list in a new core, and prints the line of each outcome. If an
+/// allocation fails for the events, prints `unread`, or `refused` if it fails for the list. Begins
+/// again then, up to ten times in all, and then fails.
 pub fn do_all<R: Print + AllocGlobal>(rt: &R, sizes: &Sizes, sent: &[Sent]) -> io::Result<()> {
     let alloc = rt.alloc();
     let mut core = sizes.core(alloc).map_err(|_| no_memory())?;
     do_at(rt, &mut core, sent)
 }
 
-/// Does the events of lines as one list in this core, and prints the line of each outcome. Begins
-/// again if an allocation fails, up to ten times in all.
+/// Does the events of lines as one list in this core, and prints the line of each outcome. If an
+/// allocation fails for the events, prints `unread`, or `refused` if it fails for the list. Begins
+/// again then, up to ten times in all, and then fails.
 fn do_at<R: Print + AllocGlobal>(rt: &R, core: &mut Core, sent: &[Sent]) -> io::Result<()> {
     for _ in 0..TIMES {
         match events_of(rt.alloc(), sent) {
@@ -127,7 +132,8 @@ fn add_event(alloc: Global, events: &mut Vec<Event>, line: &[u8]) -> Result<(), 
     }
 }
 
-/// Prints the line of each outcome.
+/// Prints the line of each outcome. Fails if printing does, or if memory runs out ten times for a
+/// line.
 fn tell<R: Print + AllocGlobal>(rt: &R, outcomes: &[Outcome]) -> io::Result<()> {
     for outcome in outcomes {
         let text = text_of(rt.alloc(), outcome).ok_or(no_memory())?;
@@ -136,8 +142,8 @@ fn tell<R: Print + AllocGlobal>(rt: &R, outcomes: &[Outcome]) -> io::Result<()> 
     Ok(())
 }
 
-/// Returns the line of an outcome. Tries again if an allocation fails, and returns `None` after ten
-/// times.
+/// Returns the line of an outcome, without its LF. Tries again if an allocation fails, and returns
+/// `None` after ten times.
 fn text_of(alloc: Global, outcome: &Outcome) -> Option<String> {
     for _ in 0..TIMES {
         if let Ok(text) = outcome_text(alloc, outcome) {

@@ -7,8 +7,8 @@ use cam6_wire::{LineFault, fault_text, read_command};
 use std::alloc::Global;
 use std::io;
 
-/// Reads each line as a command. Returns, for each, the plainest line of its command, or the line's
-/// fault.
+/// Reads each line as a command. Returns, for each, a line: the plainest one of its command, or the
+/// text of the line's fault. Fails if memory runs out.
 pub fn readings(alloc: Global, sent: &[Sent]) -> io::Result<Vec<u8>> {
     let mut answers = Vec::new(alloc);
     for line in sent {
@@ -21,7 +21,8 @@ pub fn readings(alloc: Global, sent: &[Sent]) -> io::Result<Vec<u8>> {
     Ok(answers)
 }
 
-/// Adds the plainest line of a command to `answers`, or the line of a fault.
+/// Adds the plainest line of a command to `answers`, or the line of a fault. Fails if memory runs
+/// out, as `LineFault::NoMemory` says or here.
 fn add_command(
     alloc: Global,
     answers: &mut Vec<u8>,

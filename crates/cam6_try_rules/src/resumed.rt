@@ -22,7 +22,7 @@ struct Counting<'a, W> {
 }
 
 impl<W: Write> Write for Counting<'_, W> {
-    /// Writes bytes, and counts the LFs among those that were taken.
+    /// Writes bytes, and counts the LFs among those that were taken. Returns how many were taken.
     fn write(&mut self, bytes: &[u8]) -> io::Result<usize> {
         let taken = self.writer.write(bytes)?;
         for byte in &bytes[..taken] {
@@ -39,9 +39,9 @@ impl<W: Write> Write for Counting<'_, W> {
     }
 }
 
-/// Writes a blank machine's answers to lines. If an allocation fails for a line, writes `done` if
-/// its command was done, and goes on after it. Otherwise writes `again`, and answers the line
-/// again.
+/// Writes the answers of a blank machine of limit 256 to lines. If an allocation fails for a line,
+/// writes `done` if its command was done, and goes on after it. Otherwise writes `again`, and
+/// answers the line again. Fails if the writer does, or after ten rounds.
 pub fn answer_all<W: Write>(alloc: Global, lines: &[u8], writer: &mut W) -> io::Result<()> {
     let mut machine = Machine::new(alloc, Side::S256).map_err(|_| no_memory())?;
     answer_from(alloc, lines, writer, &mut machine)
@@ -49,6 +49,7 @@ pub fn answer_all<W: Write>(alloc: Global, lines: &[u8], writer: &mut W) -> io::
 
 /// Writes this machine's answers to lines. If an allocation fails for a line, writes `done` if its
 /// command was done, and goes on after it. Otherwise writes `again`, and answers the line again.
+/// Fails if the writer does, or after ten rounds.
 fn answer_from<W: Write>(
     alloc: Global,
     lines: &[u8],
@@ -73,7 +74,7 @@ fn answer_from<W: Write>(
     Err(io::Error::from(ErrorKind::Other))
 }
 
-/// Returns the lines after the first `number` of them.
+/// Returns the lines after the first `number` of them, or nothing if there are no more.
 fn lines_after(lines: &[u8], number: usize) -> &[u8] {
     let mut rest = lines;
     for _ in 0..number {

@@ -17,7 +17,9 @@ use std::io;
 use std::io::{Input, Read, Write};
 use std::process::ExitCode;
 
-/// Does what the arguments after `scarce` ask for: answers a session, or plays lines in a way.
+/// Does what the arguments after `scarce` ask for: answers a session for `session`, or plays lines
+/// in the way that one other word says. Prints `no such words` unless there is one argument.
+/// Returns success, or an error if this fails.
 pub fn work<R: Input + Print + AllocGlobal>(rt: &R, words: &[String]) -> io::Result<ExitCode> {
     match words {
         [word] if word.as_str() == "session" => answer_session(rt)?,
@@ -27,7 +29,7 @@ pub fn work<R: Input + Print + AllocGlobal>(rt: &R, words: &[String]) -> io::Res
     Ok(ExitCode::SUCCESS)
 }
 
-/// Prints a blank machine's answers to the lines of standard input.
+/// Prints the answers of a blank machine of limit 256 to the lines of standard input.
 fn answer_session<R: Input + Print + AllocGlobal>(rt: &R) -> io::Result<()> {
     let mut lines = Vec::new(rt.alloc());
     rt.reader().read_to_end(&mut lines)?;
@@ -35,6 +37,7 @@ fn answer_session<R: Input + Print + AllocGlobal>(rt: &R) -> io::Result<()> {
 }
 
 /// Plays the lines of standard input in the way that these words say, and prints what comes back.
+/// Words that are no way are an error, as if memory had run out.
 fn play_lines<R: Input + Print + AllocGlobal>(rt: &R, words: &str) -> io::Result<()> {
     let way = LineWay::read(rt.alloc(), words).map_err(|_| no_memory())?;
     let sent = lines_given(rt)?;
@@ -49,7 +52,8 @@ fn play_lines<R: Input + Print + AllocGlobal>(rt: &R, words: &str) -> io::Result
     }
 }
 
-/// Returns the lines of standard input.
+/// Returns the lines of standard input, without their LFs. Fails if it can't be read, or isn't
+/// UTF-8.
 fn lines_given<R: Input + AllocGlobal>(rt: &R) -> io::Result<Vec<Sent>> {
     let text = io::read_to_string(rt.alloc(), rt.reader())?;
     let mut sent = Vec::new(rt.alloc());

@@ -19,7 +19,8 @@ pub enum LineWay {
 }
 
 impl Way for LineWay {
-    /// Reads the words after `as` as a way to play lines. Any other words are an error.
+    /// Reads the words after `as` as a way to play lines: `readings`, `list SIZES`, or a way of
+    /// `RuleWay`. Any other words are an error.
     fn read(alloc: Global, words: &str) -> Result<LineWay, Unplayable> {
         match words.split_once(' ').unwrap_or((words, "")) {
             ("readings", "") => Ok(LineWay::Readings),
@@ -30,7 +31,7 @@ impl Way for LineWay {
 }
 
 impl Played for LineWay {
-    /// Plays lines in this way. Returns what comes back, once.
+    /// Plays lines in this way. Returns a list of one text, what comes back.
     fn played(&self, alloc: Global, sent: &[Sent]) -> io::Result<Vec<Vec<u8>>> {
         match self {
             LineWay::Readings => Ok(vec![in alloc; readings(alloc, sent)?]?),

@@ -35,8 +35,8 @@ struct TestedCache {
 }
 
 impl TestedCache {
-    /// Makes an empty cache of so many tables, at least one and at most 64. Returns `None` if
-    /// memory runs out.
+    /// Makes an empty cache of so many tables. A number below 1 counts as 1, and one above 64 as
+    /// 64. Returns `None` if memory runs out.
     fn new(alloc: Global, capacity: usize) -> Option<TestedCache> {
         let capacity = capacity.clamp(1, MAX_CAPACITY);
         Some(TestedCache {
@@ -49,8 +49,8 @@ impl TestedCache {
     }
 }
 
-/// Does what each line says, at a new cache of so many tables. Returns what comes back for each
-/// line.
+/// Does what each line says, at a new cache of so many tables, from 1 to 64. Returns what comes
+/// back for each line. Fails if a line isn't UTF-8, or if memory runs out.
 pub fn loads(alloc: Global, capacity: usize, sent: &[Sent]) -> io::Result<Vec<u8>> {
     let mut asked = TestedCache::new(alloc, capacity).ok_or(no_memory())?;
     let mut answers = Vec::new(alloc);
@@ -60,8 +60,9 @@ pub fn loads(alloc: Global, capacity: usize, sent: &[Sent]) -> io::Result<Vec<u8
     Ok(answers)
 }
 
-/// Does what a line says, `load`, `undo`, `table` or `evict`, and adds its answer. The answer to
-/// any other line is `unread`.
+/// Does what a line says, and adds its answer. `load` and `undo` load a table or its inverse,
+/// `table` shows the last one, and `evict` evicts the oldest. The answer to any other line is
+/// `unread`. Fails if the line isn't UTF-8.
 fn answer_line(
     alloc: Global,
     answers: &mut Vec<u8>,
@@ -84,7 +85,8 @@ fn add_truth(answers: &mut Vec<u8>, is_so: bool) -> io::Result<()> {
 }
 
 /// Loads the table that a line `HALF HOOD MINOR TEXT` asks for, or its inverse if `inverted`. Adds
-/// the line `true` if the cache had it and else `false`, or why there is none.
+/// the line `true` if the cache had it and else `false`, or why there is none. Adds `unread` if the
+/// line doesn't begin so.
 fn add_load(
     alloc: Global,
     answers: &mut Vec<u8>,
@@ -101,8 +103,8 @@ fn add_load(
     }
 }
 
-/// Loads the table of a rule's text from the cache, or its inverse if `inverted`. Returns whether
-/// the cache had it, or the text for why there is none.
+/// Loads the table of a rule's text from the cache into `asked.out`, or its inverse if `inverted`.
+/// Returns whether the cache had it, or the text for why there is none. Fails if memory runs out.
 fn load(
     alloc: Global,
     asked: &mut TestedCache,
@@ -123,7 +125,8 @@ fn load(
 }
 
 /// Returns why the inverse of a rule's table can't be loaded. Returns `None` if it can be, or if no
-/// inverse is asked for. `text` is for the contract only.
+/// inverse is asked for. `table` is the table of `text`, which is for the contract only. Uses
+/// `scratch` for the inverse.
 fn why_refused(
     wiring: Wiring,
     text: &str,

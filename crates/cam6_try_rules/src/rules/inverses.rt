@@ -23,7 +23,8 @@ struct Scratch {
 }
 
 /// Inverts the table of each rule's text, once or twice. Returns the entries of each result in
-/// lines of 64, or a line for why there is none.
+/// lines of 64 digits, or a line for why there is none. Fails if a text isn't UTF-8, or if memory
+/// runs out.
 pub fn inverses(alloc: Global, wiring: Wiring, times: Times, sent: &[Sent]) -> io::Result<Vec<u8>> {
     let table = Table::blank(alloc).map_err(|_| no_memory())?;
     let inverse = Table::blank(alloc).map_err(|_| no_memory())?;
@@ -39,7 +40,7 @@ pub fn inverses(alloc: Global, wiring: Wiring, times: Times, sent: &[Sent]) -> i
 }
 
 /// Inverts the table of a rule's text, once or twice, into `scratch.inverse`. Or returns the text
-/// for why there is no inverse.
+/// for the fault, for where the rule stops, or for why there is no inverse.
 fn filled(
     alloc: Global,
     wiring: Wiring,
@@ -91,7 +92,8 @@ fn inverse_of(
     }
 }
 
-/// Returns the text for why a table has no inverse.
+/// Returns the text for why a table has no inverse: `hood`, `centres`, or `meeting` with the phase
+/// and the two addresses. It has no LF.
 pub fn cause_text(alloc: Global, cause: NotReversible) -> io::Result<String> {
     match cause {
         NotReversible::Hood => Ok(String::from_str(alloc, "hood")?),

@@ -10,8 +10,9 @@ use std::io;
 /// The most values that a stack holds.
 const VALUES: u32 = 32;
 
-/// Returns, for each text's words, the values that they leave on the stack, the top value last, or
-/// the fault at which they stop. A full stack can't be read, since that takes room for one value.
+/// Returns a line for each text's words: the values that they leave on the stack, the top value
+/// last, or the fault at which they stop. A full stack, of 32 values, can't be read, since that
+/// takes room for one value. Fails if words aren't a rule's body.
 pub fn stacks(alloc: Global, sent: &[Sent]) -> io::Result<Vec<u8>> {
     let mut answers = Vec::new(alloc);
     for text in sent {
@@ -25,7 +26,7 @@ pub fn stacks(alloc: Global, sent: &[Sent]) -> io::Result<Vec<u8>> {
 }
 
 /// Returns the entry that a definition with this body writes at address 0, or the fault at which it
-/// stops.
+/// stops. Fails if the body isn't one of a rule, or if memory runs out.
 fn written_by(alloc: Global, body: &str) -> io::Result<Result<u8, RuleFault>> {
     let text = format!(in alloc; ": R {body} ;")?;
     let wiring = Wiring {
@@ -41,7 +42,7 @@ fn written_by(alloc: Global, body: &str) -> io::Result<Result<u8, RuleFault>> {
     Ok(eval(&code, 0, &mut steps))
 }
 
-/// Returns the text of the words, and then of `DROP` as often as `values` says.
+/// Returns the text of the words, and then of ` DROP` as often as `values` says.
 fn dropping(alloc: Global, words: &str, values: u32) -> io::Result<String> {
     let mut body = String::from_str(alloc, words)?;
     for _ in 0..values {
@@ -50,7 +51,8 @@ fn dropping(alloc: Global, words: &str, values: u32) -> io::Result<String> {
     Ok(body)
 }
 
-/// Adds a line with the values that words leave on the stack, the top value last.
+/// Adds a line with the values that words leave on the stack, in decimal, the top value last. The
+/// words stop at no fault.
 fn add_values(alloc: Global, answers: &mut Vec<u8>, words: &str) -> io::Result<()> {
     let mut left = 0;
     for values in 1..=VALUES {
@@ -69,7 +71,7 @@ fn add_values(alloc: Global, answers: &mut Vec<u8>, words: &str) -> io::Result<(
     add_line(answers, line.as_str())
 }
 
-/// Returns the top value that a body leaves, which is found bit by bit.
+/// Returns the top value that a body leaves, which is found bit by bit from the lowest.
 fn top_value(alloc: Global, body: &str) -> io::Result<u16> {
     let mut value = 0;
     let mut bit: u16 = 1;

@@ -12,7 +12,8 @@ use std::io;
 /// Entries in a line of a table.
 const LINE: u16 = 64;
 
-/// Returns the rule of a text, or the text's first fault. It fails if the text isn't UTF-8.
+/// Returns the rule of a text under this wiring, or the text's first fault. Fails if the text isn't
+/// UTF-8, or if memory runs out.
 pub fn read_rule(
     alloc: Global,
     wiring: Wiring,
@@ -25,18 +26,19 @@ pub fn read_rule(
     }
 }
 
-/// Returns these bytes as a text. Fails if they aren't UTF-8.
+/// Returns these bytes as a text. Fails with `InvalidData` if they aren't UTF-8.
 pub fn text_of(bytes: &[u8]) -> io::Result<&str> {
     str::from_utf8(bytes).map_err(|_| io::Error::from(io::ErrorKind::InvalidData))
 }
 
-/// Returns the line of a fault in a rule's text, without its LF.
+/// Returns the line of a fault in a rule's text, with the numbers of the fault and of its token. It
+/// has no LF.
 fn text_fault(alloc: Global, fault: TextFault) -> io::Result<String> {
     let (number, token) = (fault.number, fault.token);
     Ok(format!(in alloc; r#"{{"fault":{number},"token":{token}}}"#)?)
 }
 
-/// Returns the line of a fault at which a rule stops, without its LF.
+/// Returns the line of a fault at which a rule stops, with its number and without its LF.
 pub fn rule_fault(alloc: Global, fault: RuleFault) -> io::Result<String> {
     let number = fault.number();
     Ok(format!(in alloc; r#"{{"fault":{number}}}"#)?)
@@ -54,7 +56,7 @@ pub enum Shown<'a> {
 }
 
 /// Reads each text as a rule. Returns what is to be shown of each, or the line of the text's first
-/// fault.
+/// fault. Fails if a text isn't UTF-8, or if memory runs out.
 pub fn answered(
     alloc: Global,
     wiring: Wiring,
@@ -71,7 +73,8 @@ pub fn answered(
     Ok(answers)
 }
 
-/// Adds what is to be shown of a rule to `answers`: `ok`, its definitions, or some of its entries.
+/// Adds a line with what is to be shown of a rule to `answers`: `ok`, its definitions, or some of
+/// its entries.
 fn add_shown(
     alloc: Global,
     answers: &mut Vec<u8>,
@@ -120,7 +123,8 @@ fn word_text(alloc: Global, word: Word) -> io::Result<String> {
     }
 }
 
-/// Adds a line with a rule's entries at these addresses. Where the rule stops, it has the fault.
+/// Adds a line with a rule's entries at these addresses, in decimal, with spaces between them.
+/// Where the rule stops, it has the fault.
 fn add_entries(
     alloc: Global,
     answers: &mut Vec<u8>,
@@ -143,8 +147,9 @@ fn add_entries(
     Ok(())
 }
 
-/// Returns the table of each rule's text, in lines of 64 entries. If a text has none, returns its
-/// fault, or the least address at which the rule stops.
+/// Returns the table of each rule's text, in lines of 64 digits. If a text has none, returns its
+/// fault, or the least address at which the rule stops. Fails if a text isn't UTF-8, or if memory
+/// runs out.
 pub fn tables(alloc: Global, wiring: Wiring, sent: &[Sent]) -> io::Result<Vec<u8>> {
     let mut answers = Vec::new(alloc);
     let mut table = Table::blank(alloc).map_err(|_| no_memory())?;
@@ -171,7 +176,7 @@ fn add_tables(
 }
 
 /// Fills `table` by a rule's text. Or returns the line of the text's fault, or of the least address
-/// at which the rule stops.
+/// at which the rule stops. Fails if the text isn't UTF-8, or if memory runs out.
 pub fn fill_by_text(
     alloc: Global,
     wiring: Wiring,
@@ -185,7 +190,7 @@ pub fn fill_by_text(
 }
 
 /// Compiles a rule's text, and fills `table` by it. Returns the code. Or returns the line of the
-/// text's fault, or of the least address at which the rule stops.
+/// text's fault, or of the least address at which the rule stops. Fails if memory runs out.
 pub fn code_of(
     alloc: Global,
     wiring: Wiring,
@@ -207,7 +212,8 @@ pub fn code_of(
     }
 }
 
-/// Adds a table's entries to `output`, 64 in a line.
+/// Adds a table's entries to `output`, in the order of their addresses. Each is a digit from 0 to
+/// 3. An LF comes after every 64.
 pub fn add_table(output: &mut Vec<u8>, table: &Table) -> io::Result<()> {
     for address in 0..ENTRIES {
         output.push(b"0123"[usize::from(table.at(address) & 3)])?;

@@ -50,7 +50,7 @@ impl Way for RuleWay {
 }
 
 impl Played for RuleWay {
-    /// Plays texts of rules in this way. Returns what comes back, once.
+    /// Plays texts of rules in this way. Returns a list of one text, what comes back.
     fn played(&self, alloc: Global, sent: &[Sent]) -> io::Result<Vec<Vec<u8>>> {
         let answers = match self {
             RuleWay::Texts(wiring) => texts::answered(alloc, *wiring, Shown::Nothing, sent),
@@ -68,7 +68,8 @@ impl Played for RuleWay {
     }
 }
 
-/// Reads `WIRING at ADDRESS ..` as the way that shows entries at these addresses.
+/// Reads `WIRING at ADDRESS ..` as the way that shows entries at these addresses. Any other text is
+/// an error.
 fn entries_way(alloc: Global, text: &str) -> Result<RuleWay, Unplayable> {
     let (wiring, addresses) = text.split_once(" at ").ok_or(Unplayable::Unread)?;
     let wiring = wiring_of(wiring)?;
@@ -86,7 +87,8 @@ fn capacity_of(text: &str) -> Result<usize, Unplayable> {
     }
 }
 
-/// Returns the addresses in a text, with spaces between them.
+/// Returns the addresses in a text, decimal numbers up to 65535 with one space between them. Any
+/// other text is an error.
 fn addresses_of(alloc: Global, text: &str) -> Result<Vec<u16>, Unplayable> {
     let mut addresses = Vec::new(alloc);
     for address in text.split(' ') {
