@@ -38,7 +38,7 @@ impl<R: Handle> Board for TriedBoard<R> {
 
     ghost fault_count = { λ board. board.inner.faults };
 
-    /// Returns how often the board failed.
+    /// Returns how often the board has failed.
     fn faults(&self) -> u64 {
         self.inner.faults()
     }
@@ -49,7 +49,7 @@ impl<R: Handle> Board for TriedBoard<R> {
         self.inner.rows()
     }
 
-    /// Loads a job, or fails if this is the call at which the board fails.
+    /// Loads a job, or fails if this is the call at which the board fails, as `new` counts them.
     fn load(&mut self, job: Job, tables: &Tables) -> Result<(), BoardFault> {
         self.inner.load(job, tables)
     }

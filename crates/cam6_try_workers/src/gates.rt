@@ -32,7 +32,8 @@ pub struct Watch {
 }
 
 impl Watch {
-    /// Makes a gate that notes what it is asked. It answers Go, but once as `once` says.
+    /// Makes a gate that notes what it is asked. It answers Go, but once as `once` says, or always
+    /// for `None`.
     pub fn new(alloc: Global, once: Option<Once>) -> Watch {
         Watch {
             once,
@@ -41,8 +42,8 @@ impl Watch {
         }
     }
 
-    /// Returns the gate's verdict before a band of this user at this board, and notes it. The bool
-    /// says whether the board is to be held first.
+    /// Returns the gate's verdict before this band of this user at this board, and notes it. The
+    /// bool says whether the board is to be held first. Users count from 1, and boards from 0.
     pub fn turn(&mut self, board: u8, user: u8, band: u8) -> (Turn, bool) {
         let (turn, holds) = match self.once {
             Some(once) if once.user == user && once.band == band => {
@@ -61,8 +62,9 @@ impl Watch {
         (turn, holds)
     }
 
-    /// Returns the numbers of the user's bands in the order in which boards asked for them, each
-    /// with the verdict if that wasn't Go.
+    /// Returns the numbers of the user's bands in the order in which boards asked for them, with
+    /// spaces between them. `preempt` or `stop` follows a number if that was the verdict. Fails if
+    /// there was no memory for a note.
     pub fn bands(&self, alloc: Global, user: usize) -> io::Result<String> {
         self.checked()?;
         let mut text = String::new(alloc);
@@ -74,14 +76,15 @@ impl Watch {
         Ok(text)
     }
 
-    /// Returns whether each of two users had a board, and no board did a band of both.
+    /// Returns whether each of two users had a board do a band, and no board did a band of both.
+    /// Fails if there was no memory for a note.
     pub fn are_apart(&self, one: usize, other: usize) -> io::Result<bool> {
         self.checked()?;
         let (ones, others) = (self.boards(one), self.boards(other));
         Ok(ones != 0 && others != 0 && ones & others == 0)
     }
 
-    /// Returns the boards that did a band of the user, one bit for each.
+    /// Returns the boards that did a band of the user, one bit for each. Board 0 is the lowest bit.
     fn boards(&self, user: usize) -> u64 {
         let mut boards: u64 = 0;
         for asked in self.asked.as_slice() {
@@ -101,7 +104,8 @@ impl Watch {
     }
 }
 
-/// Adds the number of a band to a text, and the verdict if that wasn't Go.
+/// Adds the number of a band to a text, with a space before it unless it is the first. Adds `
+/// preempt` or ` stop` if that was the verdict.
 fn add_band(alloc: Global, text: &mut String, asked: Asked) -> io::Result<()> {
     let space = if text.is_empty() { "" } else { " " };
     let answer = match asked.turn {

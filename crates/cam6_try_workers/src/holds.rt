@@ -22,15 +22,15 @@ pub struct Hold {
 }
 
 impl Hold {
-    /// Makes a hold at which no thread is held.
+    /// Makes a hold at which no thread is held yet.
     pub fn new() -> Hold {
         Hold {
             stage: Mutex::new(Stage::Free),
         }
     }
 
-    /// Holds the calling thread if it is the first one here. Returns after the thread is released,
-    /// or after `LOOKS` milliseconds.
+    /// Holds the calling thread if it is the first one here and the hold hasn't ended. Otherwise
+    /// returns at once. Returns after the thread is released, or after `LOOKS` milliseconds.
     pub fn pass<R: Wait + Clock>(&self, rt: &R) {
         if !self.turn(rt, Stage::Free, Stage::Holding) {
             return;
@@ -45,6 +45,7 @@ impl Hold {
     }
 
     /// Returns whether a thread is held. Waits until one is, for `LOOKS` milliseconds at most.
+    /// Returns false at once if no thread is held any more.
     pub fn is_holding<R: Wait + Clock>(&self, rt: &R) -> bool {
         for _ in 0..LOOKS {
             let stage = *self.stage.lock(rt);
@@ -56,7 +57,8 @@ impl Hold {
         false
     }
 
-    /// Releases the thread that is held, and returns whether there was one.
+    /// Releases the thread that is held, and returns whether there was one. If so, no thread is
+    /// held from here on.
     pub fn release<R: Wait>(&self, rt: &R) -> bool {
         self.turn(rt, Stage::Holding, Stage::Over)
     }

@@ -28,8 +28,8 @@ pub struct TestHost<R: Handle> {
 }
 
 impl<R: Handle + Send + Sync + 'static> TestHost<R> {
-    /// Makes a host with a desk for each user, and a seat for each worker. No worker has a thread
-    /// yet.
+    /// Makes a host with a desk for each user, and a seat for each board's worker. No worker has a
+    /// thread yet.
     pub fn new(rt: R, way: &WorkerWay) -> Result<TestHost<R>, NoMemory> {
         let alloc = rt.alloc();
         let shared = shared_of(rt, way.event)?;
@@ -43,8 +43,9 @@ impl<R: Handle + Send + Sync + 'static> TestHost<R> {
         })
     }
 
-    /// Starts a worker's thread at each seat, does what each line asks for, and adds its answer. If
-    /// `event` is a failure, board 0 fails at this call.
+    /// Starts a worker's thread at each seat, does what each line asks for, and adds its answer as
+    /// a line. If `event` is a failure, board 0 fails at `call`, counted from 1 over its loads,
+    /// bands and unloads.
     pub fn play(
         &mut self,
         event: Event,
@@ -64,7 +65,7 @@ impl<R: Handle + Send + Sync + 'static> TestHost<R> {
         Ok(())
     }
 
-    /// Releases a board that is held, tells all workers to end, and joins those that do.
+    /// Releases a board that is held, tells all workers to end, and joins those that end in time.
     pub fn end(&mut self) {
         self.shared.hold.end(&self.shared.rt);
         self.shared.tell_to_end(true);
@@ -91,7 +92,8 @@ impl<R: Handle + Send + Sync + 'static> TestHost<R> {
     }
 
     /// Does what a line `user`, `start` or `join` asks for at the desk of the user of this number,
-    /// counted from 1. Returns the reply, `started`, or `no`.
+    /// counted from 1. `start` asks the command in `line`, `join` waits for its reply, and `user`
+    /// does both. Returns the reply, `started`, or `no` if that can't be done.
     fn of_user(&mut self, word: &str, number: usize, line: &str) -> io::Result<String> {
         let rt = self.shared.rt;
         let Some(user) = self.users.get_mut(number.wrapping_sub(1)) else {
@@ -110,7 +112,8 @@ impl<R: Handle + Send + Sync + 'static> TestHost<R> {
     }
 
     /// Returns the answer to a line `asked` or `apart`. That is the list of this user's bands for
-    /// which the gate was asked, or whether two users had different boards.
+    /// which the gate was asked, or `yes` or `no`: whether this user and that in `rest` had
+    /// different boards. Users count from 1.
     fn of_gate(&self, word: &str, user: usize, rest: &str) -> io::Result<String> {
         let rt = self.shared.rt;
         let watch = self.shared.watch.lock(&rt);
@@ -121,8 +124,9 @@ impl<R: Handle + Send + Sync + 'static> TestHost<R> {
         text(rt.alloc(), yes_or_no(is_so))
     }
 
-    /// Returns the answer to a line `left`: how many bands are left of the user's command at the
-    /// seat of a worker that has ended.
+    /// Returns the answer to a line `left` for a board, counted from 0, and a user, from 1. It is
+    /// `left` and how many bands are left of the user's command at the seat of a worker that is
+    /// joined. It is `none` without a command, and `no` without such a worker.
     fn left(&mut self, board: usize, user: usize) -> io::Result<String> {
         let alloc = self.shared.rt.alloc();
         let Some(worker) = self.workers.get_mut(board) else {
@@ -137,8 +141,8 @@ impl<R: Handle + Send + Sync + 'static> TestHost<R> {
         }
     }
 
-    /// Returns the answer to a line `faults`: how often the board of a worker that has ended
-    /// failed.
+    /// Returns the answer to a line `faults` for a board, counted from 0. It is `faults` and how
+    /// often the board of a worker that is joined failed, or `no` without such a worker.
     fn faults(&self, board: usize) -> io::Result<String> {
         let alloc = self.shared.rt.alloc();
         match self
@@ -151,8 +155,9 @@ impl<R: Handle + Send + Sync + 'static> TestHost<R> {
         }
     }
 
-    /// Does what any other line asks for, and returns its answer. A line of no known word has the
-    /// answer `no`.
+    /// Does what any other line asks for, and returns its answer. `number` is how many workers
+    /// `running` waits for, or the board of `ended` and `serve`, counted from 0. A line of no known
+    /// word has the answer `no`.
     fn of_all(&mut self, word: &str, number: usize) -> io::Result<&'static str> {
         let rt = self.shared.rt;
         match word {
@@ -170,7 +175,8 @@ impl<R: Handle + Send + Sync + 'static> TestHost<R> {
         }
     }
 
-    /// Waits until this many workers run. Returns false if that takes too long.
+    /// Waits until exactly this many workers run. Returns false if that takes more than `LOOKS`
+    /// milliseconds.
     fn are_running(&self, count: usize) -> bool {
         for _ in 0..LOOKS {
             if self
@@ -187,8 +193,9 @@ impl<R: Handle + Send + Sync + 'static> TestHost<R> {
         false
     }
 
-    /// Waits for the end of the worker at this board. Returns `stopped` or `dead`, or `no` if there
-    /// is no such worker or it doesn't end.
+    /// Waits for the end of the worker at this board, counted from 0, and joins it. Returns
+    /// `stopped` or `dead`, or `no` if there is no such worker, or if it has no thread or doesn't
+    /// end in time.
     fn ended(&mut self, board: usize) -> &'static str {
         let Some(worker) = self.workers.get_mut(board) else {
             return "no";
@@ -200,8 +207,9 @@ impl<R: Handle + Send + Sync + 'static> TestHost<R> {
         }
     }
 
-    /// Starts a thread again for the worker at this board, with a board that never fails. Returns
-    /// `started`, or `no` if it has one or there is no such worker.
+    /// Starts a thread again for the worker at this board, counted from 0, with a board that never
+    /// fails. From here on, workers without work go on. Returns `started`, or `no` if it has a
+    /// thread or there is no such worker.
     fn serve(&mut self, board: usize) -> io::Result<&'static str> {
         let Some(worker) = self.workers.get_mut(board) else {
             return Ok("no");
@@ -222,7 +230,8 @@ fn text(alloc: Global, words: &str) -> io::Result<String> {
     Ok(String::from_str(alloc, words)?)
 }
 
-/// Makes the state that all threads share, for a way with this event.
+/// Makes the state that all threads share, for a way with this event: an empty cache, and a gate
+/// and a hold that do what the event says.
 fn shared_of<R: Handle>(rt: R, event: Event) -> Result<Arc<Shared<R>>, NoMemory> {
     let cache = TableCache::new(rt.alloc(), CACHED)?;
     let once = match event {
@@ -233,7 +242,8 @@ fn shared_of<R: Handle>(rt: R, event: Event) -> Result<Arc<Shared<R>>, NoMemory>
     Ok(Arc::new(rt.alloc(), Shared::new(rt, cache, once, holds_bands))?)
 }
 
-/// Makes a user for each desk, and a worker for each seat. None has a thread yet.
+/// Makes a user for each desk, and a worker for each seat. The seats hold nothing. None has a
+/// thread yet.
 fn people_at(
     alloc: Global,
     desks: Vec<Desk>,
@@ -249,7 +259,7 @@ fn people_at(
     Ok((users, workers))
 }
 
-/// Makes a worker for each seat. None has a thread yet.
+/// Makes a worker for each seat, which holds nothing. None has a thread yet.
 fn workers_at(alloc: Global, seats: Vec<BoardSeat>) -> Result<Vec<Worker>, AllocError>
     requires { AreIdle seats.items }
 {

@@ -22,8 +22,8 @@ pub struct Shared<R: Handle> {
 }
 
 impl<R: Handle> Shared<R> {
-    /// Makes the state that all threads share. `once` is what the gate answers once. `holds_bands`
-    /// says whether the first band of all is held inside its board.
+    /// Makes the state that all threads share. `once` is what the gate answers once, or `None` for
+    /// Go always. `holds_bands` says whether the first band of all is held inside its board.
     pub fn new(rt: R, cache: TableCache, once: Option<Once>, holds_bands: bool) -> Shared<R> {
         Shared {
             rt,
@@ -42,8 +42,8 @@ impl<R: Handle> Shared<R> {
 }
 
 impl<R: Handle> Gate for Shared<R> {
-    /// Returns the gate's verdict before a band of this user at this board, and notes it. Holds the
-    /// board first if the example asks for it.
+    /// Returns the gate's verdict before this band of this user at this board, and notes it. Holds
+    /// the board first if the example asks for it. Users count from 1, and boards from 0.
     fn turn(&self, board: u8, user: u8, band: u8) -> Turn {
         let mut watch = self.watch.lock(&self.rt);
         let (turn, holds) = watch.turn(board, user, band);
@@ -54,7 +54,8 @@ impl<R: Handle> Gate for Shared<R> {
         turn
     }
 
-    /// Lets a millisecond pass. Returns whether a worker without work goes on.
+    /// Lets a millisecond pass. Returns whether a worker without work goes on: until `tell_to_end`
+    /// has told them to end.
     fn idle(&self, _board: u8) -> bool {
         pause(&self.rt);
         !self.is_ending.load(Ordering::SeqCst)

@@ -52,12 +52,14 @@ pub struct Thread<T: Drop> {
 }
 
 impl<T: Drop> Thread<T> {
-    /// Returns whether the thread has come to its end.
+    /// Returns whether the thread has raised its flag, as the last thing that it does. Doesn't
+    /// wait.
     pub fn is_over(&self) -> bool {
         self.flag.is_up.load(Ordering::SeqCst)
     }
 
-    /// Waits for the thread's end, for `LOOKS` milliseconds at most. Returns whether it has come.
+    /// Waits until the thread has raised its flag, for `LOOKS` milliseconds at most. Returns
+    /// whether it has.
     pub fn ends<R: Clock>(&self, rt: &R) -> bool {
         for _ in 0..LOOKS {
             if self.is_over() {

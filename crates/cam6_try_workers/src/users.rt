@@ -62,7 +62,8 @@ impl User {
     }
 
     /// Waits for the user's thread to end, takes the desk back, and returns the text of the reply.
-    /// Returns `None` if there is no thread, or if it runs on for too long.
+    /// Returns `None` if there is no thread, or if it runs on for more than `LOOKS` milliseconds.
+    /// Fails if the desk gave no reply, or if memory runs out.
     pub fn join<R: Handle>(&mut self, rt: &R) -> io::Result<Option<String>> {
         if !self.is_back(rt) {
             return Ok(None);
@@ -77,8 +78,8 @@ impl User {
         }
     }
 
-    /// Waits for the user's thread to end. Returns false if there is none, or if it runs on for too
-    /// long.
+    /// Waits for the user's thread to end. Returns false if there is none, or if it runs on for
+    /// more than `LOOKS` milliseconds.
     fn is_back<R: Handle>(&self, rt: &R) -> bool {
         match &self.thread {
             Some(thread) => thread.ends(rt),
@@ -87,7 +88,8 @@ impl User {
     }
 }
 
-/// Returns the text of a reply. Without a reply it fails as if memory had run out.
+/// Returns the text of a reply, which is never `None`. Without a reply it fails as if memory had
+/// run out.
 fn text_of(alloc: Global, reply: Option<&Reply>) -> io::Result<Option<String>> {
     match reply {
         Some(reply) => Ok(Some(reply_text(alloc, reply).map_err(|_| no_memory())?)),
@@ -95,8 +97,9 @@ fn text_of(alloc: Global, reply: Option<&Reply>) -> io::Result<Option<String>> {
     }
 }
 
-/// Starts a thread that asks a command at the desk, and then raises the flag `raised`. Returns
-/// `None`, and loses the desk, if it can't be started.
+/// Starts a thread that asks a command at the desk, and then raises the flag `raised`. `flag` is
+/// another handle to that flag, for the caller. Returns `None`, and loses the desk, if it can't be
+/// started.
 fn sent<R: Handle + Send + Sync + 'static>(
     rt: R,
     desk: Desk,
@@ -108,8 +111,8 @@ fn sent<R: Handle + Send + Sync + 'static>(
     Some(Thread { handle, flag })
 }
 
-/// Asks a command at the desk, unless the desk still waits for another one. Then raises the flag,
-/// and returns the desk with the reply, if there is one.
+/// Asks a command at the desk, unless the desk still waits for another one. Then raises the flag.
+/// Returns the desk with the reply, or without one if it waited or memory ran out.
 fn speak<R: Handle>(rt: &R, mut desk: Desk, command: Command, raised: &Flag) -> Spoken {
     let reply = if desk.is_waiting() {
         None

@@ -51,8 +51,8 @@ impl Way for WorkerWay {
 }
 
 impl WorkerWay {
-    /// Plays the lines in this way. Returns what comes back, once for each call at which a board is
-    /// to fail.
+    /// Plays the lines in this way. Plays them once, or anew for each call at which board 0 is to
+    /// fail. Returns what comes back each time.
     pub fn played<R: Handle + Send + Sync + 'static>(
         &self,
         rt: R,
@@ -69,8 +69,8 @@ impl WorkerWay {
         Ok(all)
     }
 
-    /// Plays the lines once, at a new host. Returns what comes back. A board that is to fail does
-    /// so at this call.
+    /// Plays the lines once, at a new host. Returns what comes back. If a board is to fail, board 0
+    /// does so at `call`, counted from 1 over its loads, bands and unloads.
     fn answers<R: Handle + Send + Sync + 'static>(
         &self,
         rt: R,
@@ -90,7 +90,7 @@ impl WorkerWay {
     }
 }
 
-/// Returns the event that words name. Other words are an error.
+/// Returns the event that words name, or `Nothing` for no words. Other words are an error.
 fn event_of(words: &[&str]) -> Result<Event, Unplayable> {
     match words {
         [] => Ok(Event::Nothing),
@@ -106,8 +106,8 @@ fn event_of(words: &[&str]) -> Result<Event, Unplayable> {
     }
 }
 
-/// Returns the event that the gate answers `turn` once, at this band of this user. Fails if a word
-/// is no number from 0 to 255.
+/// Returns the event that the gate answers `turn` once, at this band of this user. Go holds the
+/// board first. Fails if a word is no number from 0 to 255.
 fn gate_event(turn: Turn, user: &str, band: &str) -> Result<Event, Unplayable> {
     let user = user.parse().map_err(|_| Unplayable::Unread)?;
     let band = band.parse().map_err(|_| Unplayable::Unread)?;

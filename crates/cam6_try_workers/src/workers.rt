@@ -22,8 +22,9 @@ pub struct IdleSeat {
 }
 
 impl IdleSeat {
-    /// Takes the user's command from the seat, and puts it back as it is. Returns how many bands
-    /// are left of it, or `None` if no command waits or if there is no such user.
+    /// Takes the user's command from the seat, and puts it back as it is. Users count from 1.
+    /// Returns how many bands are left of it, or `None` if no command waits or if there is no such
+    /// user.
     fn left(&mut self, user: usize) -> Option<u64> {
         if user == 0 || user > self.seat.users() {
             return None;
@@ -61,7 +62,7 @@ pub struct Worker {
 }
 
 impl Worker {
-    /// Makes a worker that has a seat and no thread yet.
+    /// Makes a worker that has a seat, which holds nothing, and no thread yet.
     pub fn new(seat: BoardSeat) -> Worker
         requires { IsIdle seat }
     {
@@ -77,8 +78,9 @@ impl Worker {
     }
 
     /// Starts a thread that serves at the worker's seat, with a board that fails at this call, or
-    /// never for `None`. Returns false, and starts none, if the worker has a thread that isn't
-    /// joined. Fails if memory runs out, and then the seat may be lost.
+    /// never for `None`. Loads, bands and unloads are counted together, from 1. Returns false, and
+    /// starts none, if the worker has a thread that isn't joined. Fails if memory runs out, and
+    /// then the seat may be lost.
     pub fn serve<R: Handle + Send + Sync + 'static>(
         &mut self,
         shared: &Arc<Shared<R>>,
@@ -108,7 +110,7 @@ impl Worker {
     }
 
     /// Waits for the worker's thread to end, joins it, and returns how it ended. Returns `None` if
-    /// there is no thread, or if it runs on for too long.
+    /// there is no thread, or if it runs on for more than `LOOKS` milliseconds.
     pub fn join<R: Handle>(&mut self, rt: &R) -> Option<Ended> {
         if !self.is_over(rt) {
             return None;
@@ -120,7 +122,7 @@ impl Worker {
     }
 
     /// Waits for the worker's thread to end. Returns false if there is none, or if it runs on for
-    /// too long.
+    /// more than `LOOKS` milliseconds.
     fn is_over<R: Handle>(&self, rt: &R) -> bool {
         match &self.thread {
             Some(thread) => thread.ends(rt),
@@ -128,8 +130,9 @@ impl Worker {
         }
     }
 
-    /// Returns how many bands are left of the user's command. Returns `None` if the worker isn't
-    /// joined, or if no command waits. The command is taken from the seat and put back.
+    /// Returns how many bands are left of the command of this user, counted from 1. Returns `None`
+    /// if the worker isn't joined, if no command waits, or if there is no such user. The command is
+    /// taken from the seat and put back.
     pub fn bands_left(&mut self, user: usize) -> Option<u64> {
         match &mut self.left {
             Some(left) => left.seat.left(user),
@@ -138,7 +141,8 @@ impl Worker {
     }
 }
 
-/// Makes an empty board that fails at this call, or never for `None`.
+/// Makes an empty board that fails at this call, or never for `None`. Loads, bands and unloads are
+/// counted together, from 1.
 fn empty_board<R: Handle>(shared: &Arc<Shared<R>>, call: Option<u64>) -> io::Result<EmptyBoard<R>> {
     match TriedBoard::new(shared, call) {
         Ok(board) => Ok(EmptyBoard { board }),
@@ -146,8 +150,8 @@ fn empty_board<R: Handle>(shared: &Arc<Shared<R>>, call: Option<u64>) -> io::Res
     }
 }
 
-/// Starts a thread that serves at the seat, and then raises the flag `raised`. Returns `None`, and
-/// loses the seat, if it can't be started.
+/// Starts a thread that serves at the seat, and then raises the flag `raised`. `flag` is another
+/// handle to that flag, for the caller. Returns `None`, and loses the seat, if it can't be started.
 fn started<R: Handle + Send + Sync + 'static>(
     shared: Arc<Shared<R>>,
     seat: IdleSeat,
@@ -160,7 +164,8 @@ fn started<R: Handle + Send + Sync + 'static>(
     Some(Thread { handle, flag })
 }
 
-/// Serves with a board until the worker ends. Returns what is left of it.
+/// Serves at the seat with a board until the worker ends, and then raises the flag. Returns the
+/// seat, how often the board failed, and how the worker ended.
 fn serve<R: Handle>(
     shared: &Shared<R>,
     seat: IdleSeat,
