@@ -12,8 +12,8 @@ use std::alloc::{AllocError, Global};
 use std::process::Abort;
 use std::test::Fail;
 
-/// Returns the command of this number in a list of several kinds. A blank machine of 256 columns is
-/// asked all of them.
+/// Returns the command of this number, from 0 to 6, in a list of several kinds. A blank machine of
+/// 256 columns is asked all of them.
 fn command(number: usize) -> Command {
     match number {
         0 => Command::Clear { plane: 3 },
@@ -25,8 +25,8 @@ fn command(number: usize) -> Command {
     }
 }
 
-/// Returns whether this is the reply to the command of this number. Side 256 has 65,536 cells, and
-/// side 128 16,384.
+/// Returns whether this is the reply to the command of this number, from 0 to 6. Side 256 has
+/// 65,536 cells, and side 128 16,384.
 fn is_its_reply(number: usize, reply: &Reply) -> bool {
     match number {
         0 => matches!(reply, Reply::Done(Done::Clear)),
@@ -39,7 +39,7 @@ fn is_its_reply(number: usize, reply: &Reply) -> bool {
     }
 }
 
-/// Returns the list of the seven commands.
+/// Returns the list of the seven commands, in the order of their numbers.
 fn commands(alloc: Global) -> Result<Vec<Command>, AllocError> {
     let mut commands = Vec::new(alloc);
     for number in 0..7 {
@@ -97,7 +97,7 @@ fn loading(reply: Reply) -> Option<Command> {
 }
 
 /// Returns four events of user 1: the command is asked and collected, and then a count of the cells
-/// of no state.
+/// of no state, which is 0.
 fn asked_for(alloc: Global, command: Command) -> Result<Vec<Event>, AllocError> {
     let mut events = Vec::new(alloc);
     events.push(Event::Ask(1, command))?;
@@ -113,7 +113,8 @@ fn add_the_rest(events: &mut Vec<Event>) -> Result<(), AllocError> {
     Ok(())
 }
 
-/// Returns whether this is the outcome of the event of this number.
+/// Returns whether this is the outcome of the event of this number, from 0 to 3, in the list of
+/// `asked_for` with a load.
 fn is_its_outcome(number: usize, outcome: &Outcome) -> bool {
     use Outcome::{Asked, Collected};
     match number {
@@ -123,7 +124,7 @@ fn is_its_outcome(number: usize, outcome: &Outcome) -> bool {
     }
 }
 
-/// Checks that there are four outcomes, each of the event of its number.
+/// Checks that there are four outcomes, each of the event of its number in the list of `asked_for`.
 fn check_outcomes(rt: &impl Abort, outcomes: &[Outcome]) {
     assert_eq!(rt; outcomes.len(), 4);
     for (number, outcome) in outcomes.iter().enumerate() {
@@ -131,7 +132,8 @@ fn check_outcomes(rt: &impl Abort, outcomes: &[Outcome]) {
     }
 }
 
-/// Does events in a new core of one user, and returns their outcomes.
+/// Does events in a new core of one user, one board and one cached table, and returns their
+/// outcomes.
 fn outcomes(alloc: Global, events: Vec<Event>) -> Result<Vec<Outcome>, NoMemory> {
     let mut core = Core::new(alloc, 1, 1, 1, [Side::S256].as_slice())?;
     let outcomes = run(alloc, &mut core, events);

@@ -27,7 +27,7 @@ fn billiards(alloc: Global) -> Option<Table> {
     Some(table)
 }
 
-/// Does this many more bands of a step, and returns the step. None of them is the last.
+/// Does `bands` more bands of a step, and returns the step. None of them may be the last.
 fn after_bands(rt: &impl Abort, mid: MidStep, tables: &EntryTables, bands: u16) -> MidStep {
     let mut mid = mid;
     for _band in 0..bands {
@@ -39,7 +39,7 @@ fn after_bands(rt: &impl Abort, mid: MidStep, tables: &EntryTables, bands: u16) 
     mid
 }
 
-/// Does the last band of a step, and returns its image.
+/// Does the last band of a step, and returns its image. Aborts if it isn't the last.
 fn last_band(rt: &impl Abort, mid: MidStep, tables: &EntryTables) -> AtRest {
     match mid.band(tables) {
         Next::Whole(image) => image,
@@ -57,7 +57,8 @@ fn check_mid(rt: &impl Abort, mid: &MidStep, side: Side, bands: u16) {
     same_at(rt, &got, &(bands, side, side), &side);
 }
 
-/// Moves a step to another image. Returns the step, and the limit of the image that it left.
+/// Moves a step to another image, whose limit is at least the step's side. Returns the step, and
+/// the limit of the image that it left.
 fn moved(rt: &impl Abort, mid: MidStep, spare: Spare) -> (MidStep, Side) {
     assert!(rt; mid.side().number() <= spare.limit().number());
     let (mid, spare) = mid.move_into(spare);

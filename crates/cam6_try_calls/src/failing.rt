@@ -17,7 +17,7 @@ pub(crate) struct Desk {
 
 impl Desk {
     /// Makes a desk at a blank machine of limit 256. It answers so many commands, and runs out of
-    /// memory at the next.
+    /// memory at each later one.
     pub(crate) fn new(alloc: Global, answers_left: usize) -> Result<Desk, NoMemory> {
         let machine = Machine::new(alloc, Side::S256)?;
         Ok(Desk {
@@ -63,7 +63,8 @@ impl Read for Shown<'_> {
 }
 
 impl BufRead for Shown<'_> {
-    /// Returns the next bytes, at most `at_once`. Fails if no calls are left.
+    /// Returns the next bytes, at most `at_once`, or none at their end. Counts one of the calls,
+    /// and fails if none is left.
     fn fill_buf(&mut self) -> io::Result<&[u8]> {
         if self.calls == 0 {
             return Err(io::Error::from(ErrorKind::Other));
@@ -72,7 +73,7 @@ impl BufRead for Shown<'_> {
         Ok(&self.bytes[..self.bytes.len().min(self.at_once)])
     }
 
-    /// Drops the first `amount` bytes.
+    /// Drops the first `amount` bytes, or all if there are fewer.
     fn consume(&mut self, amount: usize) {
         self.bytes = &self.bytes[amount.min(self.bytes.len())..];
     }
@@ -98,7 +99,8 @@ pub(crate) struct Ones {
 
 impl Ones {
     /// Counts a call of the writer, and returns true if it succeeds. A call after `calls` calls
-    /// fails as `failure` says: with an error, or by returning false if it takes nothing.
+    /// fails as `failure` says: with an error, or by returning false if it takes nothing. With
+    /// `Once` all later calls succeed.
     fn goes_well(&mut self) -> io::Result<bool> {
         if self.calls > 0 {
             self.calls -= 1;
@@ -116,7 +118,8 @@ impl Ones {
 }
 
 impl Write for Ones {
-    /// Takes one byte, or fails if this call is to fail.
+    /// Takes the first byte, and returns 1. Fails if this call is to fail, or returns 0 if it is to
+    /// take nothing. No bytes are no call.
     fn write(&mut self, buf: &[u8]) -> io::Result<usize> {
         if buf.is_empty() || !self.goes_well()? {
             return Ok(0);
@@ -125,7 +128,7 @@ impl Write for Ones {
         Ok(1)
     }
 
-    /// Does nothing, or fails if this call is to fail.
+    /// Counts as a call, and does nothing. Fails if this call is to fail with an error.
     fn flush(&mut self) -> io::Result<()> {
         let _ = self.goes_well()?;
         Ok(())

@@ -18,7 +18,7 @@ const HOODS: [Hood; 5] = [
     Hood::MargolusPhase,
 ];
 
-/// Makes planes with pseudorandom cells, which are the same at each call.
+/// Makes four planes of this side with pseudorandom cells, which are the same at each call.
 fn without_a_pattern(rt: &impl Abort, alloc: Global, side: Side) -> Result<Planes, NoMemory> {
     let mut planes = Planes::blank(alloc, side)?;
     let mut number: u64 = 1;
@@ -37,7 +37,8 @@ fn without_a_pattern(rt: &impl Abort, alloc: Global, side: Side) -> Result<Plane
     Ok(planes)
 }
 
-/// Checks that the lines of row `y` have, at each column, the address of the cell there.
+/// Checks that the lines of row `y`, one for each address bit from the lowest, have the address of
+/// the cell at each column. A word's highest bit is its first column.
 fn check_row(rt: &impl Abort, planes: &Planes, wiring: Wiring, grid: Grid, phase: Phase, y: usize) {
     let side = planes.side().number();
     assert!(rt; y < side);

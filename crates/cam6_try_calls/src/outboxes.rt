@@ -11,14 +11,15 @@ use std::process::Abort;
 // answer that is released, so an answer takes five calls.
 const ANSWERS: &[u8] = b"one\ntwo\n";
 
-/// Writes an answer to an outbox and releases it. Returns whether both succeed.
+/// Writes an answer to an outbox, and releases it even if that fails. Returns whether both succeed.
 fn goes(outbox: &mut Outbox<Ones>, answer: &[u8]) -> bool {
     let is_taken = outbox.write_all(answer).is_ok();
     outbox.release().is_ok() && is_taken
 }
 
-/// Sends two answers to a writer that fails at this call only, counted from 0. Returns whether each
-/// is taken and released, and whether the writer has exactly `want`.
+/// Sends two answers to a writer that fails at this call only, counted from 0 over its writes of a
+/// byte and its flushes. Returns whether the first is taken and released, whether the second is,
+/// and whether the writer has exactly `want`.
 fn send_with_one_failure(
     alloc: Global,
     failing_call: usize,

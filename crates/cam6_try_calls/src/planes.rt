@@ -4,8 +4,8 @@ use cam6_planes::{COLUMNS, DIGITS, NoMemory, Planes, Row, Side, WORDS, east, wes
 use std::fmt::Debug;
 use std::process::Abort;
 
-/// Checks that both values are equal. A failure names this place. An assertion costs its proof
-/// wherever it is written, so it stands here.
+/// Checks that both values are equal, and aborts if they aren't. A failure names this place. An
+/// assertion costs its proof wherever it is written, so it stands here.
 pub(crate) fn same_at<R: Abort, T: PartialEq + Debug, P: Debug>(
     rt: &R,
     got: &T,
@@ -15,13 +15,15 @@ pub(crate) fn same_at<R: Abort, T: PartialEq + Debug, P: Debug>(
     assert_eq!(rt; got, want, "at {place:?}");
 }
 
-/// Sets a row of a plane to these machine words.
+/// Sets a row of a plane, both counted from 0, to these machine words. Aborts if there is no such
+/// row or plane.
 pub(crate) fn set_row(rt: &impl Abort, planes: &mut Planes, plane: usize, row: usize, words: Row) {
     assert!(rt; plane < 4 && row < planes.side().number());
     planes.set_row_words(plane, row, words);
 }
 
-/// Returns a row with one column set.
+/// Returns a row with one column set, counted from 0 and modulo 512. A word's highest bit is its
+/// first column.
 pub(crate) fn lone(column: usize) -> Row {
     let column = column % COLUMNS;
     let mut row = [0; WORDS];
@@ -86,7 +88,8 @@ fn digits_bytes_and_words(rt: HostRuntime) -> Result<(), NoMemory> {
     Ok(())
 }
 
-/// Checks that row `y` of plane `p` is `want`.
+/// Checks that row `y` of plane `p`, both counted from 0, is `want`. Aborts if there is no such row
+/// or plane.
 pub(crate) fn check_row(rt: &impl Abort, planes: &Planes, p: usize, y: usize, want: Row) {
     assert!(rt; p < 4 && y < planes.side().number());
     same_at(rt, &planes.row_words(p, y), &want, &(p, y));

@@ -21,7 +21,8 @@ const LINES: &[u8] =
 const ANSWERS: &[u8] =
     b"{\"fault\":63}\n{\"fault\":2}\n{\"ok\":\"cycle\"}\n{\"ok\":\"run\",\"position\":0}\n";
 
-/// Returns the answers to the first `lines` lines of the session.
+/// Returns the answers to the first `lines` lines of the session, or to all four if `lines` is
+/// more.
 fn answers_to_first(lines: usize) -> &'static [u8] {
     match lines {
         0 => &ANSWERS[..0],
@@ -38,7 +39,7 @@ fn reached(marks: &[usize], n: usize) -> usize {
 }
 
 /// Asks a machine for a run of no steps. Returns whether its reply is the one after this many lines
-/// of the session. The third line sets the cycle.
+/// of the session. The third line sets the cycle. Returns false if memory runs out.
 fn stands_after(lines: usize, machine: &mut Machine) -> bool {
     match machine.reply_to(Command::Run { n: 0 }) {
         Ok(reply) => is_reply_after(lines, &reply),
@@ -77,8 +78,8 @@ const WELL: Way = Way {
     failure: Failure::Error,
 };
 
-/// Runs the session in this way at a new desk. Returns how it ended, whether exactly `want` was
-/// written, and whether the commands of this many lines were done.
+/// Runs the session in this way at a new desk with memory. Returns how it ended, whether exactly
+/// `want` was written, and whether the machine stands as after the first `lines` lines.
 fn session(alloc: Global, way: Way, want: &[u8], lines: usize) -> Result<Came, NoMemory> {
     let mut desk = Desk::new(alloc, 9)?;
     let came = session_at(alloc, way, want, lines, &mut desk);
@@ -87,7 +88,7 @@ fn session(alloc: Global, way: Way, want: &[u8], lines: usize) -> Result<Came, N
 }
 
 /// Runs the session in this way at this desk. Returns how it ended, whether exactly `want` was
-/// written, and whether the commands of this many lines were done.
+/// written, and whether the machine stands as after the first `lines` lines.
 fn session_at(alloc: Global, way: Way, want: &[u8], lines: usize, desk: &mut Desk) -> Came {
     let mut reader = Shown {
         bytes: LINES,
@@ -180,7 +181,8 @@ fn writers_fail_at_each_call(rt: HostRuntime) -> Result<(), Fail> {
 type CameAgain = ([End; 2], usize, &'static [u8], bool);
 
 /// Serves the session at this desk, and then, with memory, its rest from `line` on. Returns how
-/// both ended, what the first wrote and left, and whether both wrote all answers.
+/// both ended, how many bytes the first wrote, which bytes it left unread, and whether both wrote
+/// exactly all answers.
 fn served_at(alloc: Global, desk: &mut Desk, line: &'static [u8]) -> CameAgain {
     let (mut reader, mut again) = (LINES, line);
     let mut writer = Vec::new(alloc);
@@ -193,8 +195,8 @@ fn served_at(alloc: Global, desk: &mut Desk, line: &'static [u8]) -> CameAgain {
 }
 
 /// Serves the session at a desk that runs out of memory after so many answers, and then, with
-/// memory, its rest from `line` on. Returns how both ended, what the first wrote and left, and
-/// whether both wrote all answers.
+/// memory, its rest from `line` on. Returns how both ended, how many bytes the first wrote, which
+/// bytes it left unread, and whether both wrote exactly all answers.
 fn served_again(alloc: Global, answers: usize, line: &'static [u8]) -> Result<CameAgain, NoMemory> {
     let mut desk = Desk::new(alloc, answers)?;
     let came = served_at(alloc, &mut desk, line);

@@ -15,7 +15,8 @@ const NONE: &str =
     ": A0 ; : A1 A0 A0 ; : A2 A1 A1 ; : A3 A2 A2 ; : A4 A3 A3 ; : A5 A4 A4 ; : A6 A5 A5 ; \
     : A7 A6 A6 ; : A8 A7 A7 ; : A9 A8 A8 ; : A10 A9 A9 ; : A11 A10 A10 ; : A12 A11 A11 ;";
 
-/// Checks that evaluating the code leaves `left` steps, at each of some addresses.
+/// Checks that evaluating the code leaves `left` of the most steps, at each of four addresses. Also
+/// checks that each entry is the address modulo 4.
 fn check_steps(rt: &impl Abort, code: &Code, left: u32) {
     for (address, want) in [(0, 0), (1, 1), (2, 2), (4095, 3)] {
         let mut steps = MAX_EVAL_STEPS;
@@ -25,7 +26,8 @@ fn check_steps(rt: &impl Abort, code: &Code, left: u32) {
     }
 }
 
-/// Checks that evaluating the rule of a text leaves `left` steps, at each of some addresses.
+/// Checks that evaluating the rule of a text leaves `left` of the most steps, and gives the address
+/// modulo 4, at each of four addresses.
 fn check_rule(rt: &impl Abort, alloc: Global, text: &str, left: u32) -> Result<(), Fail> {
     let rule = parse(alloc, text, Half::A, Hood::VonNeumann, Minor::Centers)?;
     let code = Code::of(alloc, &rule)?;
