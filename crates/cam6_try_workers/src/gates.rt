@@ -43,7 +43,8 @@ impl Watch {
     }
 
     /// Returns the gate's verdict before this band of this user at this board, and notes it. The
-    /// bool says whether the board is to be held first. Users count from 1, and boards from 0.
+    /// bool says whether the board is to be held first. Users count from 1, boards and a step's
+    /// bands from 0.
     pub fn turn(&mut self, board: u8, user: u8, band: u8) -> (Turn, bool) {
         let (turn, holds) = match self.once {
             Some(once) if once.user == user && once.band == band => {
@@ -62,9 +63,9 @@ impl Watch {
         (turn, holds)
     }
 
-    /// Returns the numbers of the user's bands in the order in which boards asked for them, with
-    /// spaces between them. `preempt` or `stop` follows a number if that was the verdict. Fails if
-    /// there was no memory for a note.
+    /// Returns the numbers of the user's bands, from 0 in each step, in the order in which boards
+    /// asked for them, with spaces between. `preempt` or `stop` follows a number if that was the
+    /// verdict. Users count from 1. Fails if there was no memory for a note.
     pub fn bands(&self, alloc: Global, user: usize) -> io::Result<String> {
         self.checked()?;
         let mut text = String::new(alloc);

@@ -43,7 +43,8 @@ impl<R: Handle> Shared<R> {
 
 impl<R: Handle> Gate for Shared<R> {
     /// Returns the gate's verdict before this band of this user at this board, and notes it. Holds
-    /// the board first if the example asks for it. Users count from 1, and boards from 0.
+    /// the board first if the example asks for it. Users count from 1, boards and a step's bands
+    /// from 0.
     fn turn(&self, board: u8, user: u8, band: u8) -> Turn {
         let mut watch = self.watch.lock(&self.rt);
         let (turn, holds) = watch.turn(board, user, band);

@@ -106,8 +106,9 @@ fn event_of(words: &[&str]) -> Result<Event, Unplayable> {
     }
 }
 
-/// Returns the event that the gate answers `turn` once, at this band of this user. Go holds the
-/// board first. Fails if a word is no number from 0 to 255.
+/// Returns the event that the gate answers `turn` once, at this band of this user. Users count from
+/// 1, and a step's bands from 0. Go holds the board first. Fails if a word is no number from 0 to
+/// 255.
 fn gate_event(turn: Turn, user: &str, band: &str) -> Result<Event, Unplayable> {
     let user = user.parse().map_err(|_| Unplayable::Unread)?;
     let band = band.parse().map_err(|_| Unplayable::Unread)?;
