@@ -161,7 +161,7 @@ def test_nothing_is_drawn_or_packed(words: str, data: bytes, status: int, messag
     assert_refused(ran([*command, *options], data), status, message)
 
 
-@pytest.mark.parametrize(("word", "front"), [("--version", b"cam6_draw 1 ("), ("--help", b"Draws the cells")])
+@pytest.mark.parametrize(("word", "front"), [("--version", b"cam6_draw 1 ("), ("--help", b"Reads replies")])
 def test_the_program_tells_of_itself(word: str, front: bytes, cam6_draw: str) -> None:
     done = ran([cam6_draw, word])
     assert (done.status, done.output[: len(front)]) == (0, front)

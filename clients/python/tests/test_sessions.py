@@ -423,7 +423,7 @@ def test_a_call_that_is_interrupted(port: int, connected: Connected) -> None:
     sent = [RULE, CYCLE, OTHER_SET, RUN, lines.SAVE]
     machine = connected(port, every_seconds=5)
     machine._query(sent[:3])
-    with mock.patch.object(session_of(machine).journal, "answered", side_effect=KeyboardInterrupt):
+    with mock.patch.object(session_of(machine).journal, "record_replies", side_effect=KeyboardInterrupt):
         with pytest.raises(KeyboardInterrupt):
             machine._query(sent[3:4])
     assert machine._query(sent[4:]) == answers(sent, 128)[4:]
