@@ -51,8 +51,8 @@ pub fn number_option<'a>(
         .default_value(default)
 }
 
-/// Makes the option `--side`, whose value is one of the three sides, and 256 by default. `help` is
-/// the option's line in the help text.
+/// Makes the option `--side`, whose value is 128, 256 or 512, and 256 by default. `help` is the
+/// option's line in the help text.
 pub fn side_option<'a>(alloc: Global, help: &'a str) -> Arg<'a>
     ensures rule { (sides : TextsAt) × AreSides sides × (rule_of result ≡ option_of_sides sides) }
     ensures global { result.global ≡ false }

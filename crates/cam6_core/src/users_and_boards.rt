@@ -103,8 +103,9 @@ impl Core {
         self.boards[board as usize].preempt()
     }
 
-    /// Makes a board fail that hasn't failed. Returns the user and the command that it held, which
-    /// waits again from its image at home. Returns `None` if it held none.
+    /// Makes a board fail that hasn't failed. Returns the user and the command that it held, to go
+    /// on from its image at home, or `None` if it held none. The caller has to queue the command:
+    /// the users stay as they were.
     pub(crate) fn fail_board(&mut self, board: u64) -> Option<(User, Queued)>
         requires { IsAlive (board_of self.old board) }
         ensures back { FailGives (board_of self.old board) result }

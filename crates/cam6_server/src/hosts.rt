@@ -103,7 +103,8 @@ fn host_of<R: Handle>(
     })
 }
 
-/// Makes the gate of the boards at these seats, of which there is at least one.
+/// Makes the gate of as many boards as `serving` says. It has the queue of the first of these seats, of
+/// which there is at least one.
 fn gate_of<R: Handle>(
     rt: R,
     serving: &Serving,

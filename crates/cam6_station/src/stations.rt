@@ -234,8 +234,7 @@ impl<B: Board> Station<B> {
     }
 
     /// Makes a board fail that hasn't failed: it is dead, and loses what it holds. Returns the user
-    /// and the command that it held, which waits again from its image at home. Returns `None` if it
-    /// held none.
+    /// and the command that it held, to go on from its image at home. Returns `None` if it held none.
     pub fn fail(&mut self) -> Option<(User, Queued)>
         requires { IsAlive self.old.at }
         ensures back { FailGives self.old.at result }

@@ -115,7 +115,8 @@ impl Stack {
         Ok(())
     }
 
-    /// Exchanges the two top values. Returns `MissingValue` if there are fewer.
+    /// Exchanges the two top values. Returns `MissingValue` if there are fewer. The stack may have lost
+    /// one then.
     fn swap(&mut self) -> Result<(), RuleFault>
         ensures { IsOutcome (on_stack StackWord.Swap self.old) self.new result }
     {

@@ -54,8 +54,8 @@ impl<R: Handle> Board for TriedBoard<R> {
         self.inner.load(job, tables)
     }
 
-    /// Does a band of the job. If the shared state holds bands, the first thread that does one is
-    /// held inside. Fails if this is the call at which the board fails.
+    /// Does a band of the job, or fails if this is the call at which the board fails. If the shared
+    /// state holds bands, the first thread that does a band is held before either.
     fn band(&mut self) -> Result<BandEnd, BoardFault> {
         if self.shared.holds_bands {
             self.shared.hold.pass(&self.shared.rt);

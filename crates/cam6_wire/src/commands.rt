@@ -170,8 +170,9 @@ fn command_without_text(word: &str, value: &Value) -> Option<Command>
     }
 }
 
-/// Returns the command `set` of an object of `do`, `plane`, `row` and `bits`. Returns `None` if a
-/// member is missing or wrong, or there is another one.
+/// Returns the command `set` of an object whose `do` is `set`. Its plane and row may be out of range.
+/// Returns `None` unless the other members are `plane` and `row`, whole numbers from 0 to 2^64 - 1,
+/// and `bits`, the digits of a row of some side.
 #[tactic(auto, unfolding(crate::specs::Commands::set_of))]
 fn set_of(value: &Value) -> Option<Command>
     ensures { result ≡ set_of (view value.now) }

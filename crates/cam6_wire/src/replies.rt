@@ -207,7 +207,8 @@ fn row_value(alloc: Global, bits: &RowText) -> Result<Value, AllocError>
     ok_value_with(alloc, "row", "bits", bits)
 }
 
-/// Returns the JSON value of the reply to a command that lists the rules.
+/// Returns the JSON value of the reply to a command that lists the rules: `ok` with `rules`, and
+/// `names` with an array of the names.
 fn rules_value(alloc: Global, names: &Names) -> Result<Value, AllocError>
     ensures { IfOk result (λ value. view value ≡ done_data (Done.Rules names.now)) }
 {
