@@ -31,13 +31,13 @@ const NOT_KEPT = 'The browser keeps no more. Save the machine as a file.';
 const BLANK = Object.freeze({ title: 'New machine', lookFor: 'Define a rule, draw some cells, and press Run.' });
 const CALM = 4;         // frames a second at first, if somebody asked for less motion
 
-/** @returns {number|null} the seat that the address asks for */
+/** @returns {number|null} the seat that the page's address asks for by `#seat=N`; null if it asks for none */
 function seatOfAddress() {
   const found = /[#&]seat=(\d+)/.exec(location.hash);
   return found ? Number(found[1]) : null;
 }
 
-/** The page's machine, not yet connected. */
+/** Asks the server for the number of hosts, and makes the page's machine. It is not yet connected. */
 async function makeMachine() {
   const hosts = Number(await (await fetch('/hosts')).text()) || 0;
   const base = `${location.protocol === 'https:' ? 'wss' : 'ws'}://${location.host}/ws`;
@@ -103,12 +103,12 @@ class Page {
     joinKeys(this.actions());
   }
 
-  /** The entry of the gallery that was chosen last, if there is one. */
+  /** The gallery's entry that this tab shows; undefined if it shows none, as after a file was loaded. */
   get entry() {
     return GALLERY.find(({ name }) => name === recall(this.tab, 'cam6-entry'));
   }
 
-  /** @returns {import('./keys.js').Actions} what the keys do */
+  /** @returns {import('./keys.js').Actions} what each key does, by the names of KEYS; also `undo` and `selectAll` */
   actions() {
     const { time, piece, tools } = this;
     /** @type {(by: number, event: KeyboardEvent) => unknown} */
@@ -145,7 +145,7 @@ class Page {
     hideTrouble();
   }
 
-  /** Shows new cells. If they flash, each frame has an even number of steps from now on. */
+  /** Shows new cells. If they flash while time runs, each frame has an even number of steps until rules change. */
   planesChanged() {
     const { machine, time } = this;
     this.screen.change();
@@ -158,7 +158,7 @@ class Page {
     }
   }
 
-  /** Time went on or back. */
+  /** Shows the machine's count, its position, and the blocks of the next step. */
   positionChanged() {
     const { machine } = this;
     Object.assign(at('torus').dataset, { count: machine.count, position: machine.position });
@@ -169,7 +169,7 @@ class Page {
     this.torus.blocks = blocks ? Number(entry.grid === 'ODD') : null;
   }
 
-  /** Other rules, another cycle, other colours or another side are there. */
+  /** Shows the machine's rules, cycle, colours and side, any of which may be new. The scrubber begins anew. */
   rulesChanged() {
     const { machine } = this;
     this.tools.tell();
@@ -185,9 +185,9 @@ class Page {
   }
 
   /**
-   * Makes another machine while no step is under way.
-   * @param {() => Promise<void>} make
-   * @param {Shown} [about]
+   * Pauses, gives up a piece that floats, and changes the machine while no step is under way. Shows an error.
+   * @param {() => Promise<void>} make what changes the machine
+   * @param {Shown} [about] what to show of it; without it the title stays
    */
   async change(make, about) {
     const { time } = this;
@@ -211,7 +211,7 @@ class Page {
   }
 
   /**
-   * Says what is on the torus, and keeps it for a reload.
+   * Shows the title and what to look for. Keeps the title and the entry's name for a reload of this tab.
    * @param {Shown} shown
    */
   describe({ title, lookFor, name = '' }) {
@@ -232,8 +232,8 @@ class Page {
   }
 
   /**
-   * Another machine was loaded from a file.
-   * @param {string} name
+   * Shows another machine, which was loaded from a file.
+   * @param {string} name its title
    */
   loaded(name) {
     this.describe({ title: name, lookFor: '' });
@@ -242,7 +242,7 @@ class Page {
     this.time.begin();
   }
 
-  /** Does the commands that turn the rule of an entry round. */
+  /** Does the commands by which the entry turns its rule round: Run then takes the steps back. */
   async turnRound() {
     const { machine } = this;
     await this.change(async () => {
@@ -257,7 +257,7 @@ class Page {
     note('The rule is turned round. Run takes the steps back now.');
   }
 
-  /** Connects. A new page begins with the first entry of the gallery, an old one goes on. */
+  /** Connects. A new tab begins with the first entry of the gallery. After a reload it goes on with its machine. */
   async start() {
     await this.machine.start();
     const title = recall(this.tab, 'cam6-title');

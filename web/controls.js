@@ -71,20 +71,20 @@ export class Controls {
     return Number(this.fields.dial.value);
   }
 
-  /** @returns {number} steps a frame: two at least, and an even number, if each step inverts the torus */
+  /** @returns {number} steps a frame, by its field; rounded up to an even number if steps flash */
   get each() {
     const each = numberOf(this.fields.each);
     return this.flashes ? each + each % 2 : each;
   }
 
-  /** @returns {number} the fewest steps that may be shown at once again and again */
+  /** @returns {number} the fewest steps that a frame may have: 2 if each step inverts the torus, else 1 */
   get least() {
     return this.flashes ? 2 : 1;
   }
 
   /**
-   * Shows and takes the steps of a frame.
-   * @param {number} each steps a frame, or more if the dial asks for it
+   * Sets the field of steps a frame, within its bounds, and takes it. The dial turns as `eachChanged` says.
+   * @param {number} each steps a frame; frames have more if the dial stands high
    */
   setEach(each) {
     this.fields.each.value = String(each);
@@ -92,7 +92,10 @@ export class Controls {
     this.eachChanged();
   }
 
-  /** Takes another number of steps a frame. As many frames a second come as before. */
+  /**
+   * Takes the steps a frame from their field. The dial turns so that as many frames a second come as before.
+   * It stays if it is so fast that frames already have more steps than the field said.
+   */
   eachChanged() {
     const { pace, each } = this;
     if (pace.stepsAFrame === pace.each && each !== pace.each) {
@@ -103,7 +106,7 @@ export class Controls {
   }
 
   /**
-   * Turns the dial to so many frames a second.
+   * Turns the dial forwards so that this many frames a second come.
    * @param {number} rate
    */
   setRate(rate) {
@@ -112,8 +115,8 @@ export class Controls {
   }
 
   /**
-   * Whether each step inverts the torus. Then a frame has two steps.
-   * @param {boolean} flashes
+   * Sets whether steps flash. If so, each frame has an even number of steps, and a warning is shown.
+   * @param {boolean} flashes whether each step inverts the torus
    */
   setFlashes(flashes) {
     this.flashes = flashes;
@@ -122,7 +125,7 @@ export class Controls {
     this.setEach(this.each);
   }
 
-  /** Another first state came: the scrubber begins there, unless it is on its way to a step. */
+  /** Makes the scrubber reach from 0 to the machine's count and no further. Its range stays during a seek. */
   begin() {
     if (this.target === null) {
       this.bounds = { low: Math.min(0, this.machine.count), high: Math.max(0, this.machine.count) };
@@ -132,7 +135,7 @@ export class Controls {
 
   /**
    * Runs that way, or pauses if it does so already.
-   * @param {number} way 1 or -1
+   * @param {number} way 1 forwards, -1 back
    */
   toggle(way) {
     if (this.way === way) {
@@ -146,7 +149,7 @@ export class Controls {
     this.tell();
   }
 
-  /** Stands still. */
+  /** Begins no more frames. Those under way still end. */
   pause() {
     if (this.way !== 0) {
       this.way = 0;
@@ -167,7 +170,7 @@ export class Controls {
 
   /**
    * Turns the dial by so much.
-   * @param {number} by
+   * @param {number} by a part of one half of the dial; below 0 to the left
    */
   turn(by) {
     this.fields.dial.value = String(this.dial + by);
@@ -175,7 +178,7 @@ export class Controls {
   }
 
   /**
-   * Does some steps, or undoes them, and stands still then.
+   * Pauses, and does some steps or undoes them. Resolves after that; a fault is shown.
    * @param {number} steps below 0 to undo
    */
   async step(steps) {
@@ -185,7 +188,7 @@ export class Controls {
   }
 
   /**
-   * Does some steps as a frame, unless two frames are under way.
+   * Does some steps as a frame. The machine does none if two frames or a command are under way.
    * @param {number} steps below 0 to undo
    */
   frame(steps) {
@@ -193,9 +196,9 @@ export class Controls {
   }
 
   /**
-   * Waits for steps, and counts what they show as a frame.
+   * Waits for steps, and counts them as one frame. If they fail, pauses and shows why.
    * @param {Promise<unknown>} done
-   * @param {number} steps
+   * @param {number} steps how many, either way; above 0
    */
   async follow(done, steps) {
     this.underWay.add(done);
@@ -211,7 +214,8 @@ export class Controls {
   }
 
   /**
-   * Lets no more frames begin, and waits for those that have.
+   * Lets no more frames begin before `release`. Waits for the steps under way if the machine is ready.
+   * Each call needs a `release` of its own.
    * @returns {Promise<void>}
    */
   async hold() {
@@ -221,14 +225,15 @@ export class Controls {
     }
   }
 
-  /** Lets frames begin again. */
+  /** Ends one `hold`. Frames begin again after all are ended. */
   release() {
     this.held--;
   }
 
   /**
-   * Goes to a step. Of many wishes the last one counts.
-   * @param {number} count
+   * Pauses and goes to a step. A call during another one only sets its goal and resolves at once.
+   * A fault is shown. If steps flash, an odd count becomes the even one next to it, towards 0.
+   * @param {number} count steps since the first state
    */
   async seek(count) {
     const isUnderWay = this.target !== null;
@@ -253,8 +258,8 @@ export class Controls {
   }
 
   /**
-   * Begins the frames that are due.
-   * @param {number} now
+   * Begins a frame if one is due, and does so again at each frame of the screen.
+   * @param {number} now in milliseconds
    */
   tick(now) {
     const { pace } = this;
@@ -273,9 +278,9 @@ export class Controls {
   }
 
   /**
-   * Counts the frames and the steps of the last second.
-   * @param {number} now
-   * @param {number} wanted how many steps there should be
+   * Shows each half second how many frames came in the last second, and whether the machine is too slow.
+   * @param {number} now in milliseconds
+   * @param {number} wanted how many steps a second there should be
    */
   measure(now, wanted) {
     this.shown = this.shown.filter(({ when }) => when > now - 1000);
@@ -291,7 +296,7 @@ export class Controls {
     this.tellWay();
   }
 
-  /** Shows where time stands and which way it goes. */
+  /** Shows the count, the position and which way time goes. The scrubber's range grows to the count. */
   tell() {
     const { count, position, entries } = this.machine;
     const { bounds } = this;
@@ -309,7 +314,7 @@ export class Controls {
     this.tellWay();
   }
 
-  /** Shows on the buttons and at the dial which way time goes, and how fast. */
+  /** Gives the pace its speed by the dial, and shows which way time goes, and how fast. */
   tellWay() {
     const { way, pace, reached } = this;
     pace.each = this.each;

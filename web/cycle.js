@@ -53,9 +53,9 @@ export class Cycle {
   }
 
   /**
-   * An entry of the list.
+   * Makes the element of an entry. It is not yet in the list.
    * @param {Entry} entry
-   * @param {number} index
+   * @param {number} index from 0
    */
   makeEntry(entry, index) {
     /** @param {string} half */
@@ -81,7 +81,7 @@ export class Cycle {
   }
 
   /**
-   * Joins the number of an entry, by which it is moved.
+   * Lets the up and down arrows on the number of an entry, and drags of it, move the entry.
    * @param {HTMLElement} grip
    * @param {number} index
    */
@@ -141,7 +141,7 @@ export class Cycle {
   }
 
   /**
-   * Moves an entry to another place.
+   * Moves an entry to another place of the cycle. Does nothing if `to` lies outside it.
    * @param {number} from
    * @param {number} to
    */
@@ -157,7 +157,7 @@ export class Cycle {
   }
 
   /**
-   * Changes a part of an entry.
+   * Gives the machine the cycle with one part of an entry changed.
    * @param {number} index
    * @param {Part} key
    * @param {string|number} value
@@ -167,7 +167,7 @@ export class Cycle {
   }
 
   /**
-   * Gives the machine a cycle. Its position becomes 0.
+   * Gives the machine a cycle, `IDLE` if it is empty. The position becomes 0. A fault is shown, not thrown.
    * @param {Entry[]} entries
    */
   async set(entries) {

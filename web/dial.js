@@ -10,7 +10,7 @@ const MOST_FRAMES = 60;
 /**
  * The speed of the dial: its left half goes back, its middle stands still, and each twelfth of a half doubles.
  * @param {number} position -1 to 1
- * @returns {number} steps a second, below 0 if they are undone: 1 to 4,096
+ * @returns {number} steps a second: 1 to 4,096, the same below 0 if they are undone, or 0 in the middle
  */
 export function stepsASecond(position) {
   const turn = Math.min(Math.abs(position), 1);
@@ -21,8 +21,8 @@ export function stepsASecond(position) {
 }
 
 /**
- * Where the dial stands for a speed.
- * @param {number} speed steps a second
+ * Where the dial stands for a speed. A speed between 0 and 1 counts as 1, and one above 4,096 as 4,096.
+ * @param {number} speed steps a second, below 0 if they are undone
  * @returns {number} -1 to 1
  */
 export function positionOf(speed) {
@@ -45,13 +45,14 @@ export class Pace {
     this.each = each;
   }
 
-  /** @returns {number} the steps of a frame at this speed */
+  /** @returns {number} the steps of a frame: a multiple of `each`, so that at most about 60 frames a second come */
   get stepsAFrame() {
     return Math.max(this.each, this.each * Math.round(Math.abs(this.speed) / MOST_FRAMES / this.each));
   }
 
   /**
-   * The steps of the frame that is due. Call it for each frame that can be begun.
+   * The number of steps, not of frames, of the frame that is due. They count as done then.
+   * Call it for each frame that can be begun.
    * @param {number} elapsed milliseconds since the last call
    * @returns {number} 0 if none is due; below 0 if they are to be undone
    */
@@ -74,8 +75,8 @@ export class Pace {
 /**
  * Whether a rule inverts a plane of its half if all cells are blank or all are set, wherever a cell lies.
  * @param {import('./lines.js').Rule} rule
- * @param {number} plane
- * @param {number} phase
+ * @param {number} plane 0 to 3, one of the rule's half
+ * @param {number} phase 0 to 3, of the entry
  */
 function inverts(rule, plane, phase) {
   const names = namesOf(rule.hood, rule.minor, rule.half);
@@ -98,7 +99,8 @@ function inverts(rule, plane, phase) {
 const WRITTEN = [['a', 0], ['a', 1], ['b', 2], ['b', 3]];
 
 /**
- * Whether each step inverts a plane: a blank one is full after it, and a full one is blank.
+ * Whether there is a plane that each step inverts: if it is blank it is full after it, and the other way round.
+ * False for a cycle without entries.
  * @param {import('./lines.js').Rule[]} rules
  * @param {import('./lines.js').Entry[]} entries
  * @returns {boolean}

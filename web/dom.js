@@ -1,7 +1,7 @@
 // Small helps over the document that all parts of the page use.
 
 /**
- * An element, if it is there and of a type.
+ * Returns an element that is there and of a type. Throws an `Error` otherwise.
  * @template {Element} T
  * @param {Element|null} found
  * @param {new () => T} type
@@ -16,7 +16,7 @@ function checked(found, type, name) {
 }
 
 /**
- * The element with this id, which has to be of a type.
+ * The element with this id. Throws an `Error` if there is none, or if it isn't of the type.
  * @template {HTMLElement} T
  * @param {string} id
  * @param {new () => T} type
@@ -24,20 +24,20 @@ function checked(found, type, name) {
 export const element = (id, type) => checked(document.getElementById(id), type, id);
 
 /**
- * The element with this id.
+ * The element with this id. Throws an `Error` if there is none.
  * @param {string} id
  */
 export const at = id => element(id, HTMLElement);
 
 /**
- * The first element in another one that fits a selector.
+ * The first element in another one that fits a selector. Throws an `Error` if there is none.
  * @param {Element} parent
  * @param {string} selector
  */
 export const first = (parent, selector) => checked(parent.querySelector(selector), HTMLElement, selector);
 
 /**
- * All elements in another one that fit a selector.
+ * All elements in another one that fit a selector, in the order of the page; an empty array if none does.
  * @param {ParentNode} parent
  * @param {string} selector
  */
@@ -45,7 +45,7 @@ export const all = (parent, selector) =>
   [...parent.querySelectorAll(selector)].map(found => checked(found, HTMLElement, selector));
 
 /**
- * The context that draws on a canvas.
+ * The 2D context of a canvas. Throws an `Error` if the browser has none.
  * @param {HTMLCanvasElement} canvas
  * @param {CanvasRenderingContext2DSettings} [settings]
  */
@@ -64,7 +64,7 @@ export function contextOf(canvas, settings) {
  */
 
 /**
- * Makes an element.
+ * Makes an element. It is not yet on the page.
  * @template {keyof HTMLElementTagNameMap} K
  * @param {K} tag
  * @param {Properties<K>} properties
@@ -87,14 +87,14 @@ export function make(tag, { data, ...properties } = {}, ...children) {
 export const say = (tag, text) => make(tag, {}, String(text));
 
 /**
- * A text whose parts between backticks are words of the machine.
+ * A text in parts, in order: strings, and `code` elements for what stands between backticks.
  * @param {string} text
  * @returns {(Node|string)[]}
  */
 export const spelled = text => text.split('`').map((part, i) => i % 2 === 1 ? say('code', part) : part);
 
 /**
- * A text that begins with a capital letter.
+ * The text with its first letter as a capital one.
  * @param {string} text
  */
 export const capital = text => text.charAt(0).toUpperCase() + text.slice(1);
@@ -111,8 +111,8 @@ export function makeButton(properties, act) {
 }
 
 /**
- * Joins elements to what clicks on them do.
- * @param {Record<string, () => unknown>} actions by id
+ * Joins elements to what clicks on them do. Throws an `Error` if one isn't there.
+ * @param {Record<string, () => unknown>} actions by the element's id
  */
 export function joinClicks(actions) {
   for (const [id, act] of Object.entries(actions)) {
@@ -168,7 +168,7 @@ export function setText(node, text) {
 }
 
 /**
- * Says something to screen readers.
+ * Says something to screen readers. They read a text that is said twice in a row only once.
  * @param {string} text
  */
 export function announce(text) {
@@ -176,7 +176,7 @@ export function announce(text) {
 }
 
 /**
- * Shows a short note over the torus for some seconds.
+ * Shows a short note over the torus for four seconds, in place of an older one.
  * @param {string} text
  */
 export function note(text) {
@@ -193,7 +193,7 @@ export function note(text) {
 }
 
 /**
- * Hands a file to whoever uses the page.
+ * Lets the browser download a file.
  * @param {string} name
  * @param {Blob} blob
  */
@@ -206,7 +206,7 @@ export function download(name, blob) {
 }
 
 /**
- * Whether keys belong to a field that takes text or numbers.
+ * Whether keys belong to an element: a text area, a menu, or an input but for sliders and checkboxes.
  * @param {EventTarget|null} target
  * @returns {boolean}
  */
@@ -216,7 +216,7 @@ export function takesText(target) {
 }
 
 /**
- * A number of a field, kept within its bounds.
+ * The whole number of a field, rounded and kept within its `min` and `max`. A text that is no number counts as 0.
  * @param {HTMLInputElement} field
  * @returns {number}
  */
@@ -226,7 +226,7 @@ export function numberOf(field) {
 }
 
 /**
- * The browser's storage, if there is one.
+ * The browser's storage, or null if the browser allows none.
  * @param {'localStorage'|'sessionStorage'} kind of all pages, or of this tab alone
  * @returns {Storage|null}
  */
@@ -239,7 +239,7 @@ export function storageOf(kind) {
 }
 
 /**
- * What is kept under a name, if the browser keeps anything.
+ * The text that is kept under a name; null if there is none, or no storage.
  * @param {Storage|null} storage
  * @param {string} name
  * @returns {string|null}
@@ -261,7 +261,7 @@ export function keep(storage, name, text) {
 }
 
 /**
- * A number as people read it, as 12,345.
+ * A whole number with a comma after each three digits from the right, as 12,345.
  * @param {number} value
  */
 export const grouped = value => String(value).replace(/\B(?=(\d{3})+$)/g, ',');

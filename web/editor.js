@@ -19,13 +19,13 @@ const FIRST_TEXT = ': R CENTER NORTH XOR SOUTH XOR WEST XOR EAST XOR >PLN0 ;';
  */
 
 /**
- * Whether a rule sees blocks of two by two cells.
+ * Whether a rule's neighbourhood has blocks of two by two cells: N/MARG, N/MARG-PH or N/MARG-HV.
  * @param {Rule} rule
  */
 export const seesBlocks = rule => rule.hood.startsWith('N/MARG');
 
 /**
- * The cycle of one rule alone: on both grids in turn if it sees blocks.
+ * The cycle of one rule alone, at phase 0: on the even grid, and then on the odd one if it sees blocks.
  * @param {Rule} rule
  * @returns {import('./lines.js').Entry[]}
  */
@@ -86,13 +86,13 @@ export class Editor {
     });
   }
 
-  /** @returns {Rule} the rule in the fields */
+  /** @returns {Rule} the rule in the fields, not checked; the name without blanks round it */
   read() {
     const { name, half, hood, minor, text } = this.fields;
     return { name: name.value.trim(), half: half.value, hood: hood.value, minor: minor.value, text: text.value };
   }
 
-  /** Whether the fields differ from the rule that was opened. */
+  /** Whether the fields differ from the rule that was opened or defined last. False before there is one. */
   get isChanged() {
     const now = this.read();
     const { shown } = this;
@@ -100,7 +100,7 @@ export class Editor {
   }
 
   /**
-   * Shows a rule. Each definition begins on a line of its own.
+   * Shows a rule in the fields, in place of what they had. Each definition begins on a line of its own.
    * @param {Rule} rule
    */
   open(rule) {
@@ -113,7 +113,7 @@ export class Editor {
     this.tell();
   }
 
-  /** Begins a new rule. */
+  /** Shows a new rule under a free name in the fields. The machine gets it with `define`. */
   begin() {
     const names = new Set(this.machine.rules.map(rule => rule.name));
     let name = 'R';
@@ -177,7 +177,7 @@ export class Editor {
   }
 
   /**
-   * A token as it is shown.
+   * A token as it is shown: an element with its colour or mark, or a plain text.
    * @param {import('./forth.js').Token} token
    * @param {Set<string>} names
    * @param {number} wrong its number if it has a fault, else 0
@@ -228,7 +228,7 @@ export class Editor {
   }
 
   /**
-   * Puts a word at the cursor, with blanks round it.
+   * Puts a word at the cursor, in place of selected text, with blanks round it.
    * @param {string} word
    */
   insert(word) {
@@ -242,8 +242,8 @@ export class Editor {
   }
 
   /**
-   * Gives the machine the rule.
-   * @param {boolean} [isAlone] whether the cycle becomes this rule alone
+   * Gives the machine the rule in the fields. A fault is shown, not thrown.
+   * @param {boolean} [isAlone] whether the cycle becomes this rule alone; it does so too if it uses no rule
    */
   async define(isAlone = false) {
     const rule = this.read();
@@ -260,7 +260,7 @@ export class Editor {
   }
 
   /**
-   * Does something while no step is under way, and shows its fault.
+   * Does something while no step is under way. Shows a `Fault`, and throws any other error.
    * @param {() => Promise<void>} doing
    */
   async act(doing) {

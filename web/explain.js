@@ -43,14 +43,14 @@ const LEFT_OUT = Object.freeze({
 });
 
 /**
- * The row and the column of a corner of a block, clockwise from the upper left one.
- * @param {number} corner
+ * The row and the column of a corner of a block, 0 or 1 each.
+ * @param {number} corner 0 to 3, clockwise from the upper left one
  */
 const placeOf = corner => [[0, 0], [0, 1], [1, 1], [1, 0]][corner];
 
 /**
- * A block's state, with its cells as states of a torus.
- * @param {number} state
+ * A block's state, with its cells as states 0 to 15 of a torus, in which the other half's planes are 0.
+ * @param {number} state 0 to 255: bit c is the lower plane at corner c, bit c + 4 the upper one
  * @param {string} half
  * @returns {Block}
  */
@@ -64,7 +64,7 @@ function blockOf(state, half) {
 }
 
 /**
- * The two states of a block that become one.
+ * The two states of a block that become one, by a refusal of a cycle that can't be undone.
  * @param {Refusal} answer
  * @returns {Block[] | null} null if the cause is another one
  */
@@ -76,7 +76,7 @@ export function blocksOf(answer) {
 const TURNS = { CENTER: 0, CW: 1, OPP: 2, CCW: 3 };
 
 /**
- * The bit that a cell at a corner of a block sees under a name.
+ * The bit, 0 or 1, that a cell at a corner of a block sees under a name. Corners go clockwise from the upper left.
  * @type {(name: string, state: number, corner: number, phase: number) => number}
  */
 function bitSeen(name, state, corner, phase) {
@@ -91,10 +91,10 @@ function bitSeen(name, state, corner, phase) {
 
 /**
  * What a block's state becomes by a rule of blocks.
- * @param {number} state 0 to 255
+ * @param {number} state 0 to 255: bit c is the lower plane at corner c, bit c + 4 the upper one
  * @param {Body} rule
- * @param {number} phase
- * @returns {number}
+ * @param {number} phase 0 to 3
+ * @returns {number} a state of the same form
  */
 export function becomes(state, rule, phase) {
   const names = namesOf(rule.hood, rule.minor, rule.half);
@@ -112,7 +112,7 @@ export function becomes(state, rule, phase) {
 }
 
 /**
- * The name of the rule that can't be undone.
+ * The name of the rule that can't be undone; undefined if the cycle isn't known.
  * @param {OneWay} answer
  * @param {Known} known
  * @returns {string | undefined}
@@ -141,7 +141,8 @@ export function meetingOf(answer, known) {
 const listText = names => names.length < 2 ? names.join('') : `${names.slice(0, -1).join(', ')} and ${names.at(-1)}`;
 
 /**
- * The sentence that says at which address a rule fails, by the names that are 1 there.
+ * The sentence that says at which address a rule stops, by the names that are 1 there. It begins with a blank.
+ * Without the rule it gives the address as a number.
  * @param {number} address
  * @param {Body} [rule]
  */
@@ -174,6 +175,7 @@ function explainOneWay(answer, explanation, known) {
 
 /**
  * Explains a fault: its title, what happened and what to do.
+ * Fault 0 is the page's own: a command that was left out. A number that isn't in `faults` gets a general text.
  * @param {Refusal} answer
  * @param {Record<number, Explanation>} faults those of faults.js
  * @param {Known} [known]

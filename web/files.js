@@ -6,7 +6,7 @@ import { Film, picture } from './film.js';
 import { messageOf } from './trouble.js';
 
 /**
- * Whether a text is a machine or a list of commands, and no pattern.
+ * Whether a text is to be read as a machine or a list of commands, since it begins with `{`. Others are patterns.
  * @param {string} text
  */
 const isMachine = text => text.trimStart().startsWith('{');
@@ -97,9 +97,10 @@ export class Files {
   }
 
   /**
-   * Takes a text that may be a machine or a pattern.
+   * Loads a text that begins with `{`, or pastes any other as a pattern. An empty text does nothing.
+   * An error is shown, not thrown.
    * @param {string} text
-   * @param {string} name where it comes from
+   * @param {string} name of its file; without its ending it becomes the machine's title
    */
   async take(text, name) {
     try {
@@ -116,7 +117,7 @@ export class Files {
     }
   }
 
-  /** Pastes the text of the dialog. */
+  /** Pastes the text of the dialog as a pattern and closes the dialog, or shows there why it is none. */
   async paste() {
     const place = at('paste-fault');
     place.hidden = true;
@@ -132,15 +133,15 @@ export class Files {
   }
 
   /**
-   * A name for a file of what is on the torus.
-   * @param {string} ending
+   * A name for a file of what is on the torus, from the title and the count: `title-12.png`.
+   * @param {string} ending without a dot
    */
   nameOf(ending) {
     const title = (at('title').textContent ?? '').toLowerCase().replace(/[^a-z0-9]+/g, '-').replace(/^-|-$/g, '');
     return `${title || 'cam6'}-${this.machine.count}.${ending}`;
   }
 
-  /** Keeps the machine as a file. */
+  /** Lets the browser download the machine as a file with one load line. */
   async save() {
     const line = await this.machine.save();
     download(this.nameOf('cam6'), new Blob([line, '\n'], { type: 'application/json' }));
@@ -148,8 +149,8 @@ export class Files {
   }
 
   /**
-   * The colours of cells, as they are shown.
-   * @param {Uint8Array} cells
+   * The colours 0 to 15 of cells if only the planes that are shown count.
+   * @param {Uint8Array} cells states
    */
   coloursOf(cells) {
     const colours = coloursShown(this.machine.colours, this.screen.shown);
@@ -161,7 +162,7 @@ export class Files {
     return Number(element('picture-scale', HTMLSelectElement).value);
   }
 
-  /** Keeps a picture of the torus. */
+  /** Lets the browser download a PNG picture of the torus as it is shown. */
   async keepPicture() {
     const { side, cells } = this.screen.cells;
     const bytes = await picture(this.coloursOf(cells), side, side, { scale: this.scale });
@@ -169,7 +170,7 @@ export class Files {
     this.pictures.close();
   }
 
-  /** Makes a film from here on, and perhaps back again. A second press ends it early. */
+  /** Does steps, and lets the browser download a film of them. A second call ends the first one's film early. */
   async keepFilm() {
     if (this.isFilming) {
       this.isFilming = false;
@@ -207,10 +208,10 @@ export class Files {
   }
 
   /**
-   * Adds the frames of a film.
+   * Adds the frames of a film and does the steps between them, unless it is ended early.
    * @param {Film} film
-   * @param {number} count
-   * @param {boolean} goesBack
+   * @param {number} count frames of the way on
+   * @param {boolean} goesBack whether the same frames follow in reverse, by steps undone
    */
   async shoot(film, count, goesBack) {
     const { each } = this.time;

@@ -108,7 +108,7 @@ export function stored(bytes) {
 }
 
 /**
- * Packs bytes as zlib data.
+ * Packs bytes as zlib data, by `stored` if there is no `Stream`.
  * @param {Uint8Array} bytes
  * @param {Stream} [Stream]
  * @returns {Promise<Uint8Array>}
@@ -194,7 +194,7 @@ export class Film {
   #frames = [];
 
   /**
-   * @param {number} width
+   * @param {number} width cells, not pixels of the file
    * @param {number} height
    * @param {{scale?: number, rate?: number, Stream?: Stream}} how rate: frames a second, 1 to 1,000
    */
@@ -226,7 +226,7 @@ export class Film {
   }
 
   /**
-   * The file of all frames.
+   * The file of all frames that were added. It plays again and again.
    * @returns {Promise<Uint8Array>}
    */
   async bytes() {

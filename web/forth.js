@@ -29,7 +29,7 @@ export function tokens(text) {
 }
 
 /**
- * Where the token of a fault stands in a text, or its end.
+ * Where the token of a fault stands in a text, or the text's end if no token has this number.
  * @param {string} text
  * @param {number} number counted from 1; 0 stands for the whole text
  * @returns {Place}
@@ -102,7 +102,8 @@ function sentenceOfName(name, half) {
 }
 
 /**
- * The names that a rule may use, with the bit of the address that each stands for.
+ * The names that a rule may use, with the bit of the address that each stands for: the neighbourhood's names first.
+ * Throws a `TypeError` if the neighbourhood or the minor assignment is unknown.
  * @param {string} hood
  * @param {string} minor
  * @param {string} half
@@ -161,7 +162,7 @@ const OUTPUTS = Object.freeze({
 /**
  * The planes that a rule may write, by the output words of its text.
  * @param {string} text
- * @returns {number[]} in order
+ * @returns {number[]} 0 to 3, in order
  */
 export function writes(text) {
   /** @type {Set<number>} */
@@ -175,7 +176,7 @@ export function writes(text) {
 }
 
 /**
- * The names that are 1 at an address, as a fault of a rule that stops has it.
+ * The names that are 1 at an address, by their bits from the lowest on. A fault of a rule that stops has an address.
  * @param {number} address 0 to 4,095
  * @param {string} hood
  * @param {string} minor
@@ -208,7 +209,8 @@ const TWO_VALUES = Object.freeze({
 });
 
 /**
- * The body of each definition of a text, and that of the last one, which is the rule.
+ * The words of each definition of a text by its name, and those of the `last` one, which is the rule.
+ * The text has no fault.
  * @param {string} text
  */
 function definitionsOf(text) {
@@ -227,7 +229,7 @@ function definitionsOf(text) {
 }
 
 /**
- * The index of the first of the words `ends` from `at` on, past choices that lie within.
+ * The index of the first of the words `ends` from `at` on. It skips each whole IF .. THEN.
  * @param {string[]} body
  * @param {number} at
  * @param {string[]} ends

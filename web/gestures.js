@@ -114,7 +114,7 @@ export class Gestures {
   }
 
   /**
-   * Zooms the view at the pointer.
+   * Zooms the view at the pointer: by whole steps, or with Ctrl by any factor.
    * @param {WheelEvent} event
    */
   wheel(event) {

@@ -22,7 +22,7 @@ const FLASHING = [
   'More than three flashes a second can harm people with photosensitive epilepsy.',
 ];
 
-/** Joins the help button. */
+/** Joins the help button, and the close button of each dialog. */
 export function joinHelp() {
   const open = () => {
     const place = at('help-text');
@@ -37,7 +37,7 @@ export function joinHelp() {
   }
 }
 
-/** What the help says. */
+/** The two sections of the help as new elements: texts, and the table of keys. */
 function helpSections() {
   /** @type {(title: string, items: string[]) => HTMLElement[]} */
   const list = (title, items) => [say('h3', title), make('ul', {}, ...items.map(item => say('li', item)))];
@@ -49,7 +49,7 @@ function helpSections() {
 
 /**
  * Joins the switch of dark and light. Without a choice the page goes with the system.
- * @param {() => void} changed called after each change
+ * @param {() => void} changed called at once, and after each change
  */
 export function joinTheme(changed) {
   const system = matchMedia('(prefers-color-scheme: dark)');

@@ -87,7 +87,7 @@ export class Host {
    * Sends a line.
    * @param {string} line
    * @param {(text: string) => void} answered called with the reply as soon as it is there
-   * @param {(lost: Lost) => void} [failed] called if the connection ends before
+   * @param {(lost: Lost) => void} [failed] called if the connection ends before, at once if it is over already
    */
   send(line, answered, failed = () => {}) {
     if (this.#lost !== null) {
@@ -107,14 +107,14 @@ export class Host {
     return new Promise((resolve, reject) => this.send(line, resolve, reject));
   }
 
-  /** Ends the connection. Lines that are not answered are lost. */
+  /** Ends the connection. Lines without a reply fail at once with `Lost`, and functions of `onLost` are called. */
   close() {
     this.#socket.close();
     this.#end(new Lost(1000, 'the page closed the connection'));
   }
 
   /**
-   * Calls a function once after the connection is over.
+   * Calls a function once after the connection is over, at once if it is over already.
    * @param {(lost: Lost) => void} tell
    */
   onLost(tell) {
@@ -170,7 +170,8 @@ class Search {
   }
 
   /**
-   * Connects to a host and asks for a seat. The fault is 0 if the seat is taken for this page.
+   * Connects to a host and asks for a seat. The fault is 0 if the page got it; otherwise the connection is closed.
+   * Host 0 is only connected to. Rejects with `Lost`.
    * @param {number} number
    * @param {number} seat
    */
@@ -201,7 +202,8 @@ class Search {
   }
 
   /**
-   * Tries the preferred seats of a host, and then its seats from 1 on, until one is free.
+   * Tries the preferred seats of a host, and then its seats from 1 on, until one is free. Resolves with that seat.
+   * Resolves with null if none is free, or if the host doesn't take the page's machine. Rejects with `Lost`.
    * @param {number} number
    */
   async at(number) {
@@ -223,9 +225,10 @@ class Search {
 }
 
 /**
- * Sits down at a free seat: at a preferred one if it can be had, else at the first one of the first host that has one.
+ * Sits down at a free seat of the first host that has one and takes the page's machine. Hosts with preferred seats
+ * come first, and at each host its preferred seats do.
  * @param {Where & Wanted} how
- * @returns {Promise<Seat>} rejects with `NoSeat`
+ * @returns {Promise<Seat>} rejects with `NoSeat` if there is no such host
  */
 export async function sitDown(how) {
   const search = new Search(how);

@@ -24,7 +24,7 @@ const ZEROING = ['set', 'clear', 'side', 'cycle', 'load'];
  */
 
 /**
- * The steps that a command does or undoes.
+ * The number of steps that a command does or undoes; 0 for other commands.
  * @param {Command} command which may have come as a text without a number
  */
 const stepsOf = command => isSteps(command) ? command.n ?? 0 : 0;
@@ -137,9 +137,9 @@ export class Journal {
   }
 
   /**
-   * Notes commands before they are sent.
+   * Notes commands before they are sent, and writes them to the storage.
    * @param {Asked[]} all
-   * @param {{isZero?: boolean}} how
+   * @param {{isZero?: boolean}} how whether the count is 0 after each of them
    * @returns {Noted[]}
    */
   noteAll(all, { isZero = false } = {}) {
@@ -204,7 +204,8 @@ export class Journal {
   }
 
   /**
-   * Steps after steps of the same kind are one command.
+   * Joins steps with the command before them in their slot, if it has steps of the same kind. The later one stays.
+   * They stay apart if they would have more than 65,535 steps.
    * @param {Noted} entry
    */
   #join(entry) {
@@ -284,7 +285,7 @@ export class Journal {
   }
 
   /**
-   * All that makes the machine: the load line, and the commands since.
+   * The lines that make the machine, in order: the load line if there is one, and the commands since.
    * @returns {string[]}
    */
   lines() {

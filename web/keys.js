@@ -39,7 +39,8 @@ const ON_BUTTONS = new Set(['Enter']);
 /** @typedef {Record<string, (event: KeyboardEvent) => unknown>} Actions by the names of KEYS */
 
 /**
- * Joins the keys to what they do. Keys that a field, a list or a dialog takes are left to it.
+ * Joins the keys to what they do. Keys that a field, a list or a dialog takes are left to it. An action that
+ * returns false leaves its key to the browser.
  * @param {Actions} actions
  */
 export function joinKeys(actions) {

@@ -76,7 +76,7 @@ function parsed(line) {
 export const lineOf = command => texts.get(command) ?? JSON.stringify(command);
 
 /**
- * Whether a line loads a machine, spelled as the page spells it.
+ * Whether a line begins as the page spells a load: `{"do":"load",`. What follows isn't looked at.
  * @param {string} line
  */
 export const isLoad = line => line.startsWith(LOAD);
@@ -84,16 +84,16 @@ export const isLoad = line => line.startsWith(LOAD);
 /** @param {number} number a seat, from 1 on */
 export const seat = number => ({ seat: number });
 
-/** @type {(plane: number, row: number, bits: string) => Command} */
+/** @type {(plane: number, row: number, bits: string) => Command} that sets a row to hexadecimal digits of four cells */
 export const set = (plane, row, bits) => ({ do: 'set', plane, row, bits });
 
-/** @type {(plane: number) => Command} */
+/** @type {(plane: number) => Command} that sets each cell of the plane to 0 */
 export const clear = plane => ({ do: 'clear', plane });
 
-/** @type {(plane: number, row: number) => Command} */
+/** @type {(plane: number, row: number) => Command} that asks for the cells of a row */
 export const row = (plane, row) => ({ do: 'row', plane, row });
 
-/** @type {(plane: number) => Command} */
+/** @type {(plane: number) => Command} that asks for all rows of a plane */
 export const plane = plane => ({ do: 'plane', plane });
 
 /** @type {(side: number) => Command} of 128, 256 or 512 */
@@ -102,13 +102,13 @@ export const side = side => ({ do: 'side', side });
 /** @type {(colours: number[]) => Command} of sixteen colours of 0 to 15 */
 export const map = colours => ({ do: 'map', colours: [...colours] });
 
-/** @type {(rule: Rule) => Command} */
+/** @type {(rule: Rule) => Command} that defines the rule, or redefines it */
 export const rule = ({ name, half, hood, minor, text }) => ({ do: 'rule', name, half, hood, minor, text });
 
-/** @type {(name: string) => Command} */
+/** @type {(name: string) => Command} that removes the rule of this name */
 export const drop = name => ({ do: 'drop', name });
 
-/** @type {(entries: readonly Entry[]) => Command} */
+/** @type {(entries: readonly Entry[]) => Command} that sets the cycle, with the position 0 */
 export const cycle = entries => ({
   do: 'cycle', entries: entries.map(({ a, b, grid, phase }) => ({ a, b, grid, phase })),
 });
@@ -122,10 +122,13 @@ export const back = n => ({ do: 'back', n });
 /** @type {() => Command} */
 export const save = () => ({ do: 'save' });
 
-/** @type {(mask: number) => Command} with bit s for state s */
+/** @type {(mask: number) => Command} that counts the cells with a state of the mask, which has bit s for state s */
 export const count = mask => ({ do: 'count', mask });
 
-/** @type {(machine: Saved) => Command} whose keys keep their order */
+/**
+ * The command that loads a machine. The machine's keys keep their order, since a load line has one spelling.
+ * @type {(machine: Saved) => Command}
+ */
 export const load = machine => ({ do: 'load', machine });
 
 /**
@@ -161,7 +164,7 @@ export const isSteps = command => command.do === 'run' || command.do === 'back';
 const CHANGING = ['set', 'clear', 'side', 'map', 'rule', 'drop', 'cycle', 'load'];
 
 /**
- * Whether a command changes a machine if it is done.
+ * Whether a command changes a machine if it is done. No steps, `run` or `back` of 0, change nothing.
  * @param {Command} command
  * @returns {boolean}
  */
@@ -183,7 +186,7 @@ export class Fault extends Error {
 }
 
 /**
- * What a reply says, fault or not.
+ * What a reply says, fault or not. Throws a `SyntaxError` if it is no JSON.
  * @param {string} text
  * @returns {Reply}
  */

@@ -96,7 +96,7 @@ export class Link {
    * connection ends they are sent again over the next one, to the machine that has all commands before them.
    * @param {import('./lines.js').Command[]} commands
    * @param {{isZero?: boolean}} how whether the machine after them is a first state
-   * @returns {Promise<string>[]} the replies
+   * @returns {Promise<string>[]} the replies; `{"fault":0}` for a command with which 12 connections ended
    */
   askAll(commands, { isZero = false } = {}) {
     /** @type {(import('./journal.js').Asked & {entry: Noted|null})[]} */
@@ -111,7 +111,7 @@ export class Link {
 
   /**
    * Asks for a save, and begins the journal anew with it.
-   * @returns {Promise<string>} the reply
+   * @returns {Promise<string>} the reply to `save`; `{"fault":0}` if 12 connections ended with it
    */
   checkpoint() {
     this.#isSaving = true;

@@ -34,7 +34,7 @@ export class NotAMachine extends Error {
  * The planes that the rules of a cycle may write.
  * @param {lines.Rule[]} rules
  * @param {lines.Entry[]} entries
- * @returns {number[]} in order
+ * @returns {number[]} 0 to 3, in order
  */
 export function planesOf(rules, entries) {
   const used = new Set(entries.flatMap(({ a, b }) => [a, b]));
@@ -42,7 +42,7 @@ export function planesOf(rules, entries) {
 }
 
 /**
- * Throws the first fault of replies. Its `line` is its place among them, counted from 0.
+ * Throws the first fault of replies, if there is one. Its `line` is its place among them, counted from 0.
  * @param {lines.Reply[]} answers
  */
 function throwFirst(answers) {
@@ -287,7 +287,7 @@ export class Machine extends EventTarget {
   }
 
   /**
-   * Commands that do or undo so many steps together.
+   * One or more commands that do or undo so many steps together.
    * @param {number} n steps; below 0 they are undone
    */
   #pieces(n) {
@@ -360,7 +360,8 @@ export class Machine extends EventTarget {
   /**
    * A frame of a film: some steps, and the planes that they may change.
    * @param {number} n steps; below 0 they are undone
-   * @returns {Promise<boolean>} false if two frames are under way or a command is; rejects with `Fault`
+   * @returns {Promise<boolean>} false, with no step done, if two frames or a command are under way; rejects with
+   * `Fault`
    */
   async frame(n) {
     const done = this.#queue.frame(() => this.#stepsAndPlanes(this.#pieces(n)));
@@ -374,8 +375,8 @@ export class Machine extends EventTarget {
   }
 
   /**
-   * Goes to a count: by steps undone if the rules can be undone, else from the first state on.
-   * @param {number} count
+   * Goes to a count: by steps undone if the rules can be undone, else from the first state on. `halt` ends it early.
+   * @param {number} count steps since the first state
    * @returns {Promise<void>} rejects with `Fault` if there is no way
    */
   goTo(count) {
@@ -421,7 +422,7 @@ export class Machine extends EventTarget {
   // Cells.
 
   /**
-   * Puts cells that were edited into the machine.
+   * Puts cells that were edited into the machine. Does nothing if they have another side than the machine.
    * @param {Planes} edited
    * @param {Planes} [base] what the edit began with; only cells that differ from it are put
    * @returns {Promise<void>}
@@ -501,9 +502,9 @@ export class Machine extends EventTarget {
   }
 
   /**
-   * Defines a rule, or redefines it, also if the cycle uses it.
+   * Defines a rule, or redefines it, also if the cycle uses it: then the position becomes 0.
    * @param {lines.Rule} rule
-   * @returns {Promise<void>} rejects with `Fault`; all is as it was then
+   * @returns {Promise<void>} rejects with `Fault`; the rules and the cycle are as they were then
    */
   define(rule) {
     return this.#queue.command(async () => {
@@ -555,7 +556,8 @@ export class Machine extends EventTarget {
   // The whole machine.
 
   /**
-   * Sets a new machine up by a list of commands.
+   * Sets a new blank machine up by a list of commands. Its side is 256 if the first one doesn't set it.
+   * The commands after one that is refused are done all the same.
    * @param {lines.Command[]} commands of the gallery, or of a file
    * @returns {Promise<void>} rejects with `Fault`, whose `line` is the number of the first command that was refused
    */
@@ -576,7 +578,7 @@ export class Machine extends EventTarget {
   }
 
   /**
-   * The machine as a load line.
+   * Saves the machine, and begins the journal anew with it. Resolves with the line that loads it, without a line end.
    * @returns {Promise<string>}
    */
   save() {
@@ -605,7 +607,7 @@ export class Machine extends EventTarget {
   }
 
   /**
-   * Forgets what is kept, and begins with a blank machine.
+   * Forgets what is kept, and begins with a blank machine of side 256.
    * @returns {Promise<void>} rejects with `Fault`
    */
   startOver() {

@@ -87,7 +87,7 @@ export class About {
     return make('div', { className: 'card bad' }, say('strong', "Time can't run back."), ...reason);
   }
 
-  /** Counts the cells of each state, but not too often. */
+  /** Counts the cells of each state a quarter of a second later, if the panel is shown. Calls until then are one. */
   changed() {
     if (!this.waits && !at('about').hidden) {
       this.waits = setTimeout(() => {

@@ -49,7 +49,7 @@ export class PatternFault extends Error {
 /**
  * The size and the rule of a header line. Throws a `PatternFault`.
  * @param {string} line
- * @param {number} number
+ * @param {number} number of the line, from 1 on
  * @returns {Header}
  */
 function headerOf(line, number) {
@@ -62,7 +62,7 @@ function headerOf(line, number) {
 }
 
 /**
- * The upper left corner that a remark gives, or nothing.
+ * The upper left corner that a remark gives, as x and y, or an empty object.
  * @param {string} remark
  */
 function cornerOf(remark) {
@@ -71,7 +71,7 @@ function cornerOf(remark) {
 }
 
 /**
- * The state of a sign, or -1 if it has none.
+ * The state of a sign, 0 to 24, or -1 if it has none.
  * @param {string} sign
  */
 function stateOf(sign) {
@@ -149,7 +149,8 @@ class Body {
 }
 
 /**
- * The pattern of these rows, filled up with state 0.
+ * The pattern of these rows, which fit the header's width and height, filled up with state 0. It has the header's
+ * other members too.
  * @param {number[][]} rows
  * @param {Header} header
  */
@@ -161,7 +162,7 @@ function patternOf(rows, { width, height, ...rest }) {
 
 /**
  * Reads run-length text, with a header or without one.
- * @param {string} text
+ * @param {string} text which ends with `!`; what follows is not read
  * @param {number} [side] the most cells a side
  * @returns {Pattern}
  * @throws {PatternFault}
@@ -200,7 +201,7 @@ export function read(text, side = MOST_CELLS) {
 }
 
 /**
- * A row as runs of equal states, without the zeros at its end.
+ * A row as texts, one for each run of equal states, without the zeros at its end; an empty array for a blank row.
  * @param {Uint8Array} row
  * @param {boolean} isTwoState
  */
@@ -227,7 +228,7 @@ function runsOf(row, isTwoState) {
 const lettersOfRun = (times, letter) => times === 1 ? letter : `${times}${letter}`;
 
 /**
- * Writes run-length text.
+ * Writes run-length text with a header: with b and o if no state is above 1, else with a dot and A to O.
  * @param {Uint8Array} cells states, row by row
  * @param {number} width
  * @param {number} height

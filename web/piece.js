@@ -180,7 +180,7 @@ export class Piece {
   }
 
   /**
-   * The selected cells.
+   * The cells of the piece that floats, or else those of the machine in a frame.
    * @param {Box} frame
    * @returns {Cells}
    */
@@ -190,7 +190,7 @@ export class Piece {
 
   /**
    * Keeps the selected cells for a paste, also as a text for other programs.
-   * @returns {string}
+   * @returns {string} run-length text; empty if nothing is selected
    */
   copy() {
     if (!this.frame) {
@@ -210,7 +210,7 @@ export class Piece {
     await this.erase();
   }
 
-  /** Clears the selected cells. */
+  /** Clears the selected cells, or gives up the piece that floats. */
   async erase() {
     const { frame } = this;
     if (this.floating) {
@@ -230,7 +230,8 @@ export class Piece {
   }
 
   /**
-   * Lets a piece float in the middle of the window, or in the middle of the selection.
+   * Lets a piece float in the middle of the window, or in the middle of the selection. One that floats is put down.
+   * Shows a note instead if it is larger than the torus. Does nothing without one.
    * @param {Cells|null} cells
    */
   async paste(cells) {
@@ -250,7 +251,7 @@ export class Piece {
   }
 
   /**
-   * Holds the machine, and lets a piece float.
+   * Holds the machine, until `put` or `giveUp`, and lets a piece float.
    * @param {Cells} cells
    * @param {Point} corner
    * @param {Box|null} clear the frame that it was taken from
@@ -277,7 +278,7 @@ export class Piece {
   }
 
   /**
-   * Gives the selected cells another shape. A selection begins to float.
+   * Gives the selected cells another shape, about the same middle. A selection begins to float.
    * @param {(cells: Cells) => Cells} shape
    */
   async reshape(shape) {
@@ -297,7 +298,7 @@ export class Piece {
     }
   }
 
-  /** Puts the piece down: the machine takes it. */
+  /** Puts the piece that floats down: the machine takes it. Does nothing if none floats. */
   async put() {
     const draft = this.drawing();
     if (!draft) {
@@ -309,7 +310,7 @@ export class Piece {
     this.time.release();
   }
 
-  /** Takes the piece away again. */
+  /** Takes the piece that floats away again, and selects nothing. */
   giveUp() {
     if (this.floating) {
       this.floating = null;
@@ -322,7 +323,7 @@ export class Piece {
   /**
    * Pastes a run-length text.
    * @param {string} text
-   * @throws {Error} if it is no pattern
+   * @throws {import('./patterns.js').PatternFault} as a rejection, if it is no pattern
    */
   async pasteText(text) {
     await this.paste(read(text));

@@ -35,7 +35,7 @@ export class Planes {
    * Writes a row of a plane.
    * @param {number} plane 0 to 3
    * @param {number} y
-   * @param {string} bits hexadecimal digits, as the machine writes rows
+   * @param {string} bits a hexadecimal digit for each four cells, the leftmost cell in the highest bit
    */
   setRow(plane, y, bits) {
     const keep = ~(0x01010101 << plane);
@@ -86,7 +86,7 @@ export class Planes {
   }
 
   /**
-   * The state of a cell.
+   * The state of a cell. Both numbers wrap round the torus.
    * @param {number} x
    * @param {number} y
    * @returns {number}
@@ -96,7 +96,7 @@ export class Planes {
   }
 
   /**
-   * Gives a cell a state.
+   * Gives a cell a state. Both numbers wrap round the torus.
    * @param {number} x
    * @param {number} y
    * @param {number} state 0 to 15

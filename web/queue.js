@@ -25,7 +25,7 @@ export class Queue {
   }
 
   /**
-   * Does a command after those before it, and after the frames that are under way.
+   * Does a command after those before it, and after the frames that are under way. Settles as its work does.
    * @template T
    * @param {() => Promise<T>} work
    * @returns {Promise<T>}

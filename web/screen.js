@@ -10,7 +10,7 @@ import { lights, PALETTE } from './palette.js';
 export const cssOf = colour => `rgb(${PALETTE[colour].join(' ')})`;
 
 /**
- * The planes in which a state is set, as words.
+ * The planes in which a state is set, as a text: `0, 2`, or `none` for state 0.
  * @param {number} state
  */
 export function planesOf(state) {

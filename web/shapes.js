@@ -72,7 +72,7 @@ export function boxOf([x, y], [endX, endY]) {
 }
 
 /**
- * The points of a box between two points: its edge, or all of it.
+ * The points of a box between two points, row by row: its edge, or all of it.
  * @param {Point} from
  * @param {Point} to
  * @param {boolean} [isFull]
@@ -122,9 +122,9 @@ export function fill(planes, [x, y]) {
 }
 
 /**
- * Random numbers from 0 to 1 that are the same for the same seed (mulberry32).
+ * A function whose random numbers are the same for the same seed (mulberry32).
  * @param {number} seed a whole number
- * @returns {() => number}
+ * @returns {() => number} gives the next one, from 0 on and below 1
  */
 export function randomFrom(seed) {
   let state = seed | 0;
@@ -140,7 +140,7 @@ export function randomFrom(seed) {
  * Random points of a box.
  * @param {Point} from
  * @param {Point} to
- * @param {number} density the share of points, 0 to 1
+ * @param {number} density the chance of each point, 0 to 1
  * @param {number} seed a whole number
  * @returns {Point[]}
  */

@@ -20,7 +20,8 @@ const MOST_KEPT = 8;
 const headOf = name => `cam6/${name}`;
 
 /**
- * The name of a tab's journal: the one that the tab has, or else a new one.
+ * The name of a tab's journal: the one that the tab has, or else a new one, which the tab then keeps.
+ * It is `page` if the tab has no storage, or one that fails.
  * @param {Pick<Storage, 'getItem'|'setItem'>|null} session the tab's own storage, if there is one
  * @param {() => number} [random]
  * @returns {string}
@@ -55,7 +56,7 @@ function keysOf(storage, prefix) {
 }
 
 /**
- * What lies at a head's key.
+ * The head at a key, or null if there is none.
  * @param {Store} storage
  * @param {string} key
  * @returns {Head|null}
@@ -117,8 +118,8 @@ export class JournalStorage {
   }
 
   /**
-   * Does something with the storage, and returns whether that went well.
-   * @param {(storage: Store) => unknown} work may also return false
+   * Does something with the storage. Returns false if there is none, if `work` throws, or if it returns false.
+   * @param {(storage: Store) => unknown} work
    */
   #tried(work) {
     try {
@@ -129,8 +130,8 @@ export class JournalStorage {
   }
 
   /**
-   * Reads what lies here, and makes the place this page's own.
-   * @returns {Content|null}
+   * Reads what lies here, and makes the place this page's own. Removes all journals but the eight latest.
+   * @returns {Content|null} null if nothing whole lies here
    */
   read() {
     let content = null;
@@ -160,14 +161,14 @@ export class JournalStorage {
     return { loadLine, first: this.#first, count: head.count, slots };
   }
 
-  /** @returns {boolean} whether no other page took the place over, as a duplicated tab does */
+  /** @returns {boolean} whether no other page took the place over, as a duplicated tab does; true without a storage */
   isOurs() {
     let isOurs = true;
     this.#tried(storage => { isOurs = storage.getItem(this.#key('owner')) === this.#owner; });
     return isOurs;
   }
 
-  /** Goes on under a new name. */
+  /** Goes on under a new name. Nothing is kept under it before `replace`. */
   moveOn() {
     this.name = newName(this.#random);
     this.#head = null;
@@ -234,7 +235,7 @@ export class JournalStorage {
     keysOf(storage, this.#key('')).filter(key => !isLive(key)).forEach(key => storage.removeItem(key));
   }
 
-  /** Forgets all. */
+  /** Removes this journal from the storage. The place stays this page's own. */
   clear() {
     this.#tried(storage => forget(storage, this.name));
     this.#tried(storage => storage.setItem(this.#key('owner'), this.#owner));

@@ -143,7 +143,7 @@ export class Tools {
   }
 
   /**
-   * Draws a state on points.
+   * Draws a state on points. Planes that are hidden keep their bits.
    * @param {Planes} planes
    * @param {Point[]} points
    * @param {number} state
@@ -155,7 +155,7 @@ export class Tools {
   }
 
   /**
-   * A pointer goes down on the torus.
+   * Begins a stroke, or a drag of the selection. A stroke from a cell that has its state already draws state 0.
    * @param {Point} place
    */
   start(place) {
@@ -258,8 +258,8 @@ export class Tools {
   }
 
   /**
-   * Shows which cell the pointer is over.
-   * @param {Point|null} place
+   * Shows which cell the pointer is over, unless a stroke is under way.
+   * @param {Point|null} place null if it is over none
    */
   hover(place) {
     if (this.stroke) {
@@ -284,7 +284,7 @@ export class Tools {
   }
 
   /**
-   * Gives the machine new cells, and keeps the old ones for undo.
+   * Gives the machine the cells that differ, and keeps both for undo: the last 40 drawings are kept.
    * @param {Planes} before
    * @param {Planes} after
    */
@@ -300,7 +300,7 @@ export class Tools {
     }
   }
 
-  /** Undoes the last drawing, if no step came after it. */
+  /** Undoes the last drawing if the cells are still as it left them. Otherwise, or if there is none, shows a note. */
   async undo() {
     await this.time.hold();
     const last = this.drawings.pop();

@@ -89,7 +89,7 @@ export class Torus {
   }
 
   /**
-   * Moves what is drawn to the middle, also if it lies over a seam.
+   * Moves what is drawn to the middle, also if it lies over a seam, and shows the whole torus.
    * @param {Planes} planes
    */
   centreOn(planes) {
@@ -267,7 +267,7 @@ export class Torus {
     context.setLineDash([]);
   }
 
-  /** Keeps on the canvas what a program needs to find a cell. */
+  /** Keeps in the canvas's dataset what a program needs to find a cell: side, left and top, zoom, and the frame. */
   tell() {
     const ratio = devicePixelRatio || 1;
     const { x, y } = this.view.placeOf(0, 0);

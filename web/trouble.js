@@ -100,8 +100,8 @@ function picturesOf([one, other], meeting, table) {
 }
 
 /**
- * A block of two by two cells.
- * @param {number[]} states
+ * A canvas with a block of two by two cells, a pixel each.
+ * @param {number[]} states of the four cells, row by row
  * @param {Uint32Array} table
  */
 function pictureOf(states, table) {

@@ -33,7 +33,7 @@ export class View {
   }
 
   /**
-   * The place on the torus, not wrapped, of a pixel.
+   * The place on the torus, not wrapped, of a pixel: in cells, with fractions.
    * @param {number} pixelX
    * @param {number} pixelY
    * @returns {{x: number, y: number}}
@@ -50,7 +50,7 @@ export class View {
   }
 
   /**
-   * Moves a cell to the middle.
+   * Moves a place to the middle. Both numbers wrap round the torus and may be fractions.
    * @param {number} x
    * @param {number} y
    */
@@ -82,7 +82,7 @@ export class View {
 
   /**
    * The next larger or smaller whole zoom, at a pixel.
-   * @param {number} direction 1 or -1
+   * @param {number} direction 1 for larger cells, -1 for smaller ones
    * @param {number} pixelX
    * @param {number} pixelY
    */
@@ -123,6 +123,7 @@ export class View {
 
 /**
  * The middle of what is drawn along one line of the torus: opposite to the middle of the widest gap.
+ * It may be a fraction, and is the middle of the line if all is used or nothing.
  * @param {ArrayLike<unknown>} isUsed whether each column, or each row, has a cell
  * @returns {number}
  */
