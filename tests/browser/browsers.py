@@ -79,7 +79,7 @@ class Browser:
 
 
 def path_of(package: str, *names: str) -> str:
-    """The path of a package's program, which other systems have under other names. Fails if it isn't there."""
+    """The path of the first of these programs that is there. Fails the test, naming the package, if none is."""
     for name in names:
         if path := shutil.which(name):
             return path
@@ -88,7 +88,7 @@ def path_of(package: str, *names: str) -> str:
 
 @contextmanager
 def chromium(downloads: Path) -> Iterator[Browser]:
-    """Chromium, until the end of the context."""
+    """Chromium, until the end of the context. Files that pages give it go to the folder `downloads`."""
     options = webdriver.ChromeOptions()
     options.binary_location = path_of("chromium", "chromium", "chromium-browser", "google-chrome")
     # Chromium refuses to sandbox its processes if it runs as root.
@@ -114,7 +114,7 @@ class Marionette(Peer):
         self.packet()
 
     def packet(self) -> Any:
-        """The next packet of Marionette's."""
+        """Waits for the next packet of Marionette's, and returns its JSON. Raises OSError if the browser has ended."""
         size = b""
         while (digit := self.file.read(1)) != b":":
             if not digit:
@@ -123,7 +123,7 @@ class Marionette(Peer):
         return json.loads(self.file.read(int(size)))
 
     def result(self, name: str, **parameters: object) -> Any:
-        """The result of a command. One is under way at a time, so that all have one number."""
+        """Does a command, one at a time, and returns its result or the `value` in it. Raises WebDriverException."""
         packet = json.dumps([0, 0, name, parameters])
         self.send(f"{len(packet)}:{packet}")
         _, _, error, result = self.packet()
@@ -142,7 +142,7 @@ class Marionette(Peer):
         return messages
 
     def execute(self, command: str, parameters: dict[str, Any]) -> dict[str, object]:
-        """Does a command for selenium, and gives its value."""
+        """Does a command for selenium, and returns {"value": result}. Raises WebDriverException if it fails."""
         if command == Command.GET_LOG:
             return {"value": self.console()}
         # A screenshot is of the window, and not of all of the page.
@@ -152,7 +152,7 @@ class Marionette(Peer):
 
 @contextmanager
 def firefox(downloads: Path) -> Iterator[Browser]:
-    """Firefox with a profile of its own, until the end of the context."""
+    """Firefox with a profile of its own, until the end of the context. Files of pages go to the folder `downloads`."""
     with tempfile.TemporaryDirectory(prefix="firefox-", ignore_cleanup_errors=True) as profile:
         port, output = Path(profile, "MarionetteActivePort"), Path(profile, "output")
         preferences = PREFERENCES | {"browser.download.dir": str(downloads)}

@@ -14,13 +14,13 @@ BLACK, NOTHING = (0, 0, 0, 255), (0, 0, 0, 0)
 
 
 def machine_after(cam6: str, lines: Iterable[str]) -> dict[str, Any]:
-    """What a private machine saves after these lines."""
+    """The machine, as JSON of a reply to `save`, that a private machine (program `cam6`) has after these lines."""
     machine: dict[str, Any] = json.loads(private(cam6, [*lines, '{"do":"save"}'])[-1])["machine"]
     return machine
 
 
 def picture_after(cam6: str, lines: Iterable[str]) -> Image.Image:
-    """The picture of a private machine after these lines."""
+    """The picture (RGBA, a pixel for each cell) of a private machine, the program `cam6`, after these lines."""
     machine = machine_after(cam6, lines)
     side, colours = machine["side"], machine["colours"]
     planes = ["".join(f"{int(row, 16):0{side}b}" for row in rows) for rows in machine["planes"]]
@@ -32,7 +32,7 @@ def picture_after(cam6: str, lines: Iterable[str]) -> Image.Image:
 
 
 def lit_pixels(picture: Image.Image, ground: tuple[int, ...] = BLACK) -> set[tuple[int, int]]:
-    """The columns and rows of the pixels that have another light than the ground."""
+    """The places (column, row) of the pixels that have another light than the ground, opaque black if none is named."""
     return {divmod(place, picture.width)[::-1] for place, light in enumerate(picture.getdata()) if light != ground}
 
 

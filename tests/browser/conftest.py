@@ -13,7 +13,7 @@ from browser.teacher import Teacher
 
 
 def pytest_terminal_summary(terminalreporter: TerminalReporter) -> None:
-    """Prints what tests measured, by the second."""
+    """Prints what tests measured (their properties `figures`), which is by the second. Tests that failed count too."""
     reports = [*terminalreporter.getreports("passed"), *terminalreporter.getreports("failed")]
     for name, figures in (one for report in reports for one in report.user_properties):
         if name == "figures":

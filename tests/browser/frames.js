@@ -3,7 +3,7 @@
 // and the steps.
 const [least, wanted, most] = arguments;
 const torus = document.getElementById('torus');
-/** Waits. */
+/** Resolves after so many milliseconds. */
 const pause = milliseconds => new Promise(done => setTimeout(done, milliseconds));
 let frames = 0;
 document.getElementById('run').click();

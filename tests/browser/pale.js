@@ -1,14 +1,14 @@
 // The texts of the page, in the theme of the argument, whose light differs too little from the light behind them: less than
 // 4.5 to 1 (WCAG 2, AA), or less than 3 to 1 if they are large.
 document.documentElement.dataset.theme = arguments[0];
-/** The numbers in a CSS colour. */
+/** The numbers in a CSS colour: red, green and blue of 0 to 255, and the opacity if it has one. Zeros if it has none. */
 const parts = colour => (colour.match(/[\d.]+/g) ?? [0, 0, 0, 0]).map(Number);
-/** The relative luminance of a colour, as WCAG defines it. */
+/** The relative luminance, 0 to 1, of red, green and blue of 0 to 255, as WCAG defines it. */
 const light = rgb => {
   const [r, g, b] = rgb.map(v => v / 255).map(v => v <= 0.03928 ? v / 12.92 : ((v + 0.055) / 1.055) ** 2.4);
   return 0.2126 * r + 0.7152 * g + 0.0722 * b;
 };
-/** The colour of the background that an element has. */
+/** The red, green and blue of what lies under an element's text: all backgrounds over each other, white below them. */
 const background = element => {
   let over = [];
   for (let at = element; at; at = at.parentElement) {

@@ -50,29 +50,29 @@ class Teacher:
     # What an eye sees.
 
     def script(self, body: str, *values: object) -> Any:
-        """What a function with this body returns. `arguments` has the values. A promise is awaited."""
+        """What a JavaScript function with this body returns. `arguments` has the values. A promise is awaited."""
         return self.driver.execute_script(body, *values)
 
     def value(self, expression: str, *values: object) -> Any:
-        """The value of an expression."""
+        """The value of a JavaScript expression on the page. `arguments` has the values."""
         return self.script(f"return {expression}", *values)
 
     def wait_until(self, condition: str, *values: object) -> Any:
-        """Waits until an expression has a value that counts, and returns it."""
+        """Waits until a JavaScript expression has a value that isn't false, null, 0 or empty, and returns the value."""
         waits = WebDriverWait(self.driver, PATIENCE, POLL)
         return waits.until(lambda _: self.value(condition, *values), f"it never came to be so: {condition} {values}")
 
     def torus(self, name: str) -> str:
-        """What the page tells of the torus under a name, as `count` or `state`."""
+        """What the page tells of the torus under a name of its dataset, as `count` or `state`, always as a text."""
         return str(self.value(f"{TORUS}.{name}"))
 
     def canvas(self) -> Image.Image:
-        """The picture on the canvas that has a pixel for each cell."""
+        """The picture (RGBA) on the canvas that has a pixel for each cell, whatever the window shows of it."""
         url: str = self.value("document.getElementById('cells').toDataURL('image/png')")
         return Image.open(BytesIO(base64.b64decode(url.partition(",")[2]))).convert("RGBA")
 
     def seen(self, column: int, row: int, size: int) -> Image.Image:
-        """What the window shows of a square of cells from this one on: the pixel in the middle of each cell."""
+        """What the window shows of a square of cells, `size` a side, from this cell on: the middle pixel of each."""
         zoom = self.value(VIEW)[-1]
         x, y = self.place(column, row)
         window = Image.open(BytesIO(self.driver.get_screenshot_as_png())).convert("RGBA")
@@ -89,12 +89,12 @@ class Teacher:
         return [error for error in errors if not any(text in error for text in pardoned)]
 
     def count(self) -> int:
-        """The number of steps since the first state."""
+        """The number of steps since the first state, as the page shows it now; below 0 before that state."""
         return int(self.torus("count"))
 
     def wait_for_count(self) -> int:
-        """Waits until the count stays, and returns it. It stays for a second, and for so many looks, since steps take
-        longer on a busy computer."""
+        """Waits until the count stays while the page is ready, and returns it. It stays for a second, and for so many
+        looks, since steps take longer on a busy computer. Fails if it never stays."""
         looks: list[tuple[float, int]] = []
 
         def stays() -> bool:
@@ -122,7 +122,7 @@ class Teacher:
 
     @contextmanager
     def window(self) -> Iterator[None]:
-        """Another window, in which all happens within the context. It stays open after it."""
+        """Opens another window, in which all happens within the context. It stays open after that."""
         first = self.driver.current_window_handle
         self.driver.switch_to.new_window("window")
         yield
@@ -139,12 +139,12 @@ class Teacher:
         self.wait_until(READY)
 
     def reload(self) -> None:
-        """Loads the page again."""
+        """Loads the page again, and waits until it is ready."""
         self.driver.refresh()
         self.wait_until(READY)
 
     def element(self, selector: str) -> WebElement:
-        """An element that is not disabled, as soon as it is there."""
+        """Waits for the first element of a CSS selector to be there and not disabled, and returns it."""
         script = "(found => found && !found.disabled && found)(document.querySelector(arguments[0]))"
         element: WebElement = self.wait_until(script, selector)
         return element
@@ -161,7 +161,7 @@ class Teacher:
         field.send_keys(text)
 
     def choose(self, selector: str, value: str) -> None:
-        """Chooses an option of a menu."""
+        """Chooses the option of a menu that has this value (not this text)."""
         option = "[...arguments[0].options].find(one => one.value === arguments[1])"
         self.value(option, self.element(selector), value).click()
 
@@ -171,12 +171,12 @@ class Teacher:
         self.script(f"arguments[0].value = arguments[1]; {tells}", self.element(selector), value)
 
     def key(self, key: str, times: int = 1) -> None:
-        """Presses a key so many times."""
+        """Presses a key, which goes to the element that has the focus, so many times."""
         for _ in range(times):
             ActionChains(self.driver, duration=0).send_keys(key).perform()
 
     def place(self, column: int, row: int) -> tuple[int, int]:
-        """Where the middle of a cell is in the window."""
+        """The pixel (x, y) of the window in the middle of a cell. The column and the row wrap round the torus."""
         x, y, left, top, side, zoom = self.value(VIEW)
         return int(x + ((column - left) % side + 0.5) * zoom), int(y + ((row - top) % side + 0.5) * zoom)
 
@@ -190,12 +190,12 @@ class Teacher:
         actions.perform()
 
     def pick(self, tool: str, state: int) -> None:
-        """Takes a tool, which draws this state."""
+        """Takes a tool, by its `data-tool`, and the state 0 to 15 that tools draw."""
         self.fill("#draw-state", str(state))
         self.click(f"[data-tool={tool}]")
 
     def set_up(self, entry: str) -> list[str]:
-        """Chooses an entry of the gallery, and sees that it is set up. Returns the lines of the entry."""
+        """Chooses an entry of the gallery by its name. Fails if it isn't shown then. Returns its example's lines."""
         self.click("#gallery")
         self.click(f"[data-entry={entry}]")
         lines = (TOP / "examples" / f"{entry}.lines").read_text(encoding="utf-8").splitlines()
@@ -203,13 +203,13 @@ class Teacher:
         return lines
 
     def begin_anew(self) -> None:
-        """Makes a new machine, and sees that it is blank."""
+        """Makes a new machine by the page's button, and fails if it doesn't come to be blank."""
         self.click("#tab-about")
         self.click("#blank")
         self.assert_shows([])
 
     def write_rule(self, rule: dict[str, str]) -> None:
-        """Types a rule into the editor, and defines it."""
+        """Fills the editor with a rule (members half, hood, minor, name and text), and presses Define."""
         self.click("#tab-rule")
         for part in ("half", "hood", "minor"):
             self.choose(f"#rule-{part}", rule[part])
@@ -218,12 +218,12 @@ class Teacher:
         self.click("#define")
 
     def pause(self) -> int:
-        """Pauses while time runs. Returns the count at which it stays."""
+        """Waits until time runs, pauses it, and returns the count at which it stays."""
         self.click("#run[aria-pressed=true]")
         return self.wait_for_count()
 
     def download(self, selector: str) -> Path:
-        """Clicks an element, and returns the file that the page then gives to keep."""
+        """Clicks an element, waits for the one new file that the page gives to keep, and returns its path."""
         before = {*self.browser.downloads.iterdir()}
         self.click(selector)
 
@@ -238,7 +238,7 @@ class Teacher:
         return paths[0]
 
     def size(self, width: int, height: int) -> None:
-        """Gives the window another size. The page has so much of it. The browser is asked again until it has done so."""
+        """Gives the page in the window a size in pixels. Asks the browser again until it has it, or fails."""
 
         def is_taken() -> bool:
             more = self.value("[outerWidth - innerWidth, outerHeight - innerHeight]")
