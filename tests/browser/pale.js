@@ -1,7 +1,7 @@
 // The texts of the page, in the theme of the argument, whose light differs too little from the light behind them: less than
 // 4.5 to 1 (WCAG 2, AA), or less than 3 to 1 if they are large.
 document.documentElement.dataset.theme = arguments[0];
-/** The numbers in a CSS colour: red, green and blue of 0 to 255, and the opacity if it has one. Zeros if it has none. */
+/** The numbers in a CSS colour: red, green, blue (0 to 255), and the opacity if it has one; zeros if it has none. */
 const parts = colour => (colour.match(/[\d.]+/g) ?? [0, 0, 0, 0]).map(Number);
 /** The relative luminance, 0 to 1, of red, green and blue of 0 to 255, as WCAG defines it. */
 const light = rgb => {
