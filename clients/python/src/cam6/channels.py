@@ -107,7 +107,8 @@ class Channel:
             pass
 
     def _split(self, data: bytes) -> list[bytes]:
-        """The whole replies that the data end."""
+        """The replies that these data complete, without LF. A last part is kept for the next data. Raises `Lost` if
+        there are more than are owed."""
         replies = data.split(b"\n")
         last = replies.pop()
         if replies and self._half:
@@ -133,14 +134,15 @@ class Channel:
         raise Lost(sentence)
 
     def _await(self, until: Optional[float]) -> None:
-        """Waits until something can be read, or written if something is unsent."""
+        """Waits until something can be read, or written if something is unsent. Ends the channel and raises `Lost` if
+        `until` passes."""
         left = None if until is None or until == float("inf") else until - time.monotonic()
         if left is not None and left <= 0 or not self._wait(self._sent < len(self._out), left):
             self._end("No reply came in time.")
 
     # What each kind of channel does its own way.
     def _write(self, data: memoryview) -> int:
-        """Writes some of the bytes, and returns how many."""
+        """Writes some of the bytes, and returns how many: 0 if none can be written now."""
         raise NotImplementedError
 
     def _read(self) -> Optional[bytes]:
@@ -165,7 +167,8 @@ class Channel:
 
 
 def can_go_on(reads: int, writes: int, is_writing: bool, seconds: Optional[float]) -> bool:
-    """Whether one of two files can be read or written within some seconds. `writes` may be the same file."""
+    """Whether the file `reads` can be read, or `writes` written if `is_writing`, within some seconds (None: without
+    end). Both are descriptors, and may be the same."""
     if not hasattr(select, "poll"):
         ready = select.select([reads], [writes] if is_writing else [], [], seconds)
         return any(ready)
@@ -199,7 +202,8 @@ class Process(Channel):
         self._ended = None
 
     def _write(self, data: memoryview) -> int:
-        """Writes to the program's input. Bytes for a program that has ended count as written."""
+        """Writes to the program's input, and returns how many bytes. Bytes for a program that has ended count as
+        written."""
         try:
             return os.write(self._writes, data)
         except BlockingIOError:
@@ -208,7 +212,7 @@ class Process(Channel):
             return len(data)  # What the program wrote before it ended, and its status, is read next.
 
     def _read(self) -> Optional[bytes]:
-        """Reads the program's output."""
+        """Reads the program's output: b"" at its end, None if there is nothing yet."""
         try:
             return os.read(self._reads, READ)
         except BlockingIOError:
@@ -219,7 +223,7 @@ class Process(Channel):
         return can_go_on(self._reads, self._writes, is_writing, seconds)
 
     def _close(self) -> None:
-        """Closes both pipes, and kills the program if it does not end."""
+        """Closes both pipes, and kills the program if it does not end within 5 seconds."""
         self._to.close()
         self._from.close()
         try:
@@ -230,7 +234,7 @@ class Process(Channel):
         self._errors.close()
 
     def _why_ended(self) -> str:
-        """Says with which status the program ended, and what it wrote to its errors."""
+        """The sentence for its end: with which status it ended, and what it wrote to its errors."""
         try:
             status = self._process.wait(TO_END)
         except subprocess.TimeoutExpired:
@@ -266,7 +270,7 @@ class Connection(Channel):
         stream.setblocking(False)
 
     def _write(self, data: memoryview) -> int:
-        """Sends to the host. Bytes for a connection that was reset count as sent."""
+        """Sends to the host, and returns how many bytes. Bytes for a connection that was reset count as sent."""
         try:
             return self._stream.send(data)
         except (BlockingIOError, ssl.SSLWantReadError, ssl.SSLWantWriteError):
@@ -275,7 +279,7 @@ class Connection(Channel):
             return len(data)  # What the host wrote before it closed is read next.
 
     def _read(self) -> Optional[bytes]:
-        """Reads what the host sent, with what TLS has buffered."""
+        """Reads what the host sent, with what TLS has buffered: b"" at the end, None if there is nothing yet."""
         try:
             data = self._stream.recv(READ)
             while data and isinstance(self._stream, ssl.SSLSocket) and self._stream.pending():
@@ -297,7 +301,8 @@ class Connection(Channel):
 def open_connection(
     address: tuple[str, int], tls: Union[None, bool, ssl.SSLContext], server_name: Optional[str], seconds: float
 ) -> Connection:
-    """Opens a connection to an address within some seconds. Raises `Lost`, and says what to do."""
+    """Opens a connection to a host and a port, within `seconds`, at most 5. `tls` is as for `connect`. The
+    certificate's name is `server_name`, or the host's if that is None. Raises `Lost`, and says what to do."""
     try:
         stream = socket.create_connection(address, timeout=min(TO_CONNECT, seconds))
     except OSError as cause:

@@ -88,7 +88,8 @@ class Journal:
         self.size = good
 
     def _read(self, data: bytes, path: str) -> int:
-        """Takes up what whole lines say. Returns how many bytes these are."""
+        """Takes up what whole lines say. Returns how many bytes these are. Raises `BadJournal` if one is not of a
+        journal, or if the limit is another one."""
         whole = data.rfind(b"\n") + 1
         rows = data[:whole].split(b"\n")[:-1]
         if not rows:
@@ -161,12 +162,13 @@ class Journal:
         self.number += len(commands)
 
     def record_part(self, line: bytes, reply: bytes) -> None:
-        """Notes that some steps of the first pending command were done."""
+        """Notes that some steps of the first pending command were done: by the line `line`, with this reply. The rest
+        stays pending."""
         self._apply_part(line, reply)
         self._write([{"part": text_of(line), "reply": text_of(reply)}], False)
 
     def record_replies(self, replies: Sequence[bytes]) -> None:
-        """Notes replies to the first pending commands."""
+        """Notes replies to the first pending commands, one each, in order. These are not pending after that."""
         rows = []
         for reply in replies:
             kept = reply if reply.startswith(lines.CHANGES) else None
@@ -175,7 +177,7 @@ class Journal:
         self._write(rows, False)
 
     def drop_pending(self) -> list[bytes]:
-        """Gives the pending commands up, and returns them."""
+        """Gives all pending commands up, and returns them in order. They count as never asked for."""
         dropped = list(self.pending)
         if dropped:
             self._apply_drop(len(dropped))
@@ -204,7 +206,8 @@ class Journal:
             self._file = None
 
     def _write(self, rows: list[dict[str, Any]], is_synced: bool, is_known: bool = True) -> None:
-        """Writes lines of what is known already, or not yet."""
+        """Appends lines to the file, if there is one, and syncs it if `is_synced`. A stale file is written anew first,
+        and that is all if memory has what they say already (`is_known`)."""
         if self._file is None:
             return
         if self._is_stale:
@@ -260,7 +263,8 @@ class Journal:
 
 
 def rest_of(line: bytes, part: bytes) -> bytes:
-    """What is left of a line of steps after a part of them."""
+    """The line of the steps that are left of the line `line` after those of `part`. Raises `ValueError` if they are no
+    lines of steps one way, or `part` has more."""
     whole, done = lines.STEPS.fullmatch(line), lines.STEPS.fullmatch(part)
     if not whole or not done or whole[1] != done[1] or int(done[2]) > int(whole[2]):
         raise ValueError
@@ -283,7 +287,8 @@ _SHIFTED_BACK = {0xE000 + byte: byte for byte in range(128, 256)}
 
 
 def lock(file: IO[bytes], path: str) -> None:
-    """Keeps other programs from the file until it is closed. Raises `BadJournal` if one has it."""
+    """Keeps other programs from the file until it is closed. Raises `BadJournal`, which names `path`, if one has it.
+    Does nothing on a system without `fcntl`."""
     try:
         import fcntl
     except ImportError:

@@ -99,7 +99,8 @@ def compact(value: Any) -> bytes:
 
 
 def between(reply: bytes, head: bytes, tail: bytes) -> bytes:
-    """What stands in a reply between two parts that are the same in each of its kind."""
+    """What stands in a reply between two parts that are the same in each of its kind. Raises `Cam6Error` if it lacks
+    them."""
     if not reply.startswith(head) or not reply.endswith(tail):
         raise Cam6Error(f"This is no reply of cam6: {shortened(reply)}. Does cam6 really run there?")
     return reply[len(head) : -len(tail)]
@@ -130,26 +131,26 @@ def _names(replies: list[bytes]) -> list[str]:
 
 
 def set_row(plane: Any, row: Any, bits: Row, side: int) -> Call[None]:
-    """Writes a row of a plane."""
+    """The call that writes a row of a plane. `bits` are as for `cells.digits_of`."""
     plane, row = number(plane, "plane", 0, 3), number(row, "row", 0, side - 1)
     digits = cells.digits_of(bits, side)
     return Call([f'{{"do":"set","plane":{plane},"row":{row},"bits":"{digits}"}}'.encode()], b'{"ok":"set"}', nothing)
 
 
 def set_rows(plane: int, rows: Iterable[tuple[int, str]]) -> Call[None]:
-    """Writes rows of a plane, each by its number and its digits, which are not checked again."""
+    """The call that writes rows of a plane, each by its number and its digits. Nothing is checked again."""
     head = f'{{"do":"set","plane":{plane},"row":'
     lines = [f'{head}{row},"bits":"{digits}"}}'.encode() for row, digits in rows]
     return Call(lines, b'{"ok":"set"}', nothing)
 
 
 def clear(plane: Any) -> Call[None]:
-    """Clears a plane."""
+    """The call that clears a plane."""
     return Call([b'{"do":"clear","plane":%d}' % number(plane, "plane", 0, 3)], b'{"ok":"clear"}', nothing)
 
 
 def row_line(plane: int, row: int) -> bytes:
-    """The line that shows a row of a plane."""
+    """The line that shows a row of a plane. Nothing is checked."""
     return b'{"do":"row","plane":%d,"row":%d}' % (plane, row)
 
 
@@ -159,7 +160,7 @@ def digits_of_reply(reply: bytes) -> bytes:
 
 
 def row(plane: Any, row: Any, side: int) -> Call[bytes]:
-    """Shows a row of a plane."""
+    """The call that returns the cells of a row of a plane, a byte each."""
     line = row_line(number(plane, "plane", 0, 3), number(row, "row", 0, side - 1))
 
     def read(replies: list[bytes]) -> bytes:
@@ -183,13 +184,13 @@ def _array(replies: list[bytes]) -> Array:
 
 
 def plane(plane: Any) -> Call[Array]:
-    """Shows all rows of a plane."""
+    """The call that returns the cells of a plane, by row and column."""
     line = b'{"do":"plane","plane":%d}' % number(plane, "plane", 0, 3)
     return Call([line], b'{"ok":"plane","rows":[', _array)
 
 
 def states() -> Call[Array]:
-    """Shows the states of all cells."""
+    """The call that returns the states 0 to 15 of all cells, by row and column. It has a line for each plane."""
 
     def read(replies: list[bytes]) -> Array:
         """The states of all cells, by row and column."""
@@ -199,7 +200,7 @@ def states() -> Call[Array]:
 
 
 def rule(name: Any, text: Any, half: Any, hood: Any, minor: Any) -> Call[None]:
-    """Defines a rule."""
+    """The call that defines a rule."""
     command = {
         "do": "rule",
         "name": rule_name(name),
@@ -212,12 +213,12 @@ def rule(name: Any, text: Any, half: Any, hood: Any, minor: Any) -> Call[None]:
 
 
 def drop(name: Any) -> Call[None]:
-    """Forgets a rule."""
+    """The call that forgets a rule."""
     return Call([compact({"do": "drop", "name": rule_name(name)})], b'{"ok":"drop"}', nothing)
 
 
 def rules() -> Call[list[str]]:
-    """Lists the names of the rules."""
+    """The call that returns the names of the rules."""
     return Call([b'{"do":"rules"}'], b'{"names":[', _names)
 
 
@@ -245,7 +246,7 @@ def entry_of(entry: Any, halves: Mapping[str, str]) -> dict[str, Any]:
 
 
 def cycle(entries: Sequence[Any], halves: Mapping[str, str]) -> Call[None]:
-    """Says what each step does."""
+    """The call that says what each step does. `halves` is as for `entry_of`."""
     spelled = [entry_of(entry, halves) for entry in entries]
     if not 1 <= len(spelled) <= 16:
         raise ValueError(f"a cycle has 1 to 16 entries, not {len(spelled)}")
@@ -253,7 +254,8 @@ def cycle(entries: Sequence[Any], halves: Mapping[str, str]) -> Call[None]:
 
 
 def steps(word: str, n: Any) -> Call[int]:
-    """Does or undoes steps. More than a line may ask for are asked for by several lines."""
+    """The call that does steps (`word` is "run") or undoes them ("back"), and returns the position. It has several
+    lines if `n` is above 65,535."""
     left = number(n, "n", 0, MOST_OF_CALL)
     whole, rest = divmod(left, MOST_STEPS)
     parts = [MOST_STEPS] * whole + ([rest] if rest or not whole else [])
@@ -262,12 +264,12 @@ def steps(word: str, n: Any) -> Call[int]:
 
 
 def steps_line(word: bytes, n: int) -> bytes:
-    """The line that does or undoes so many steps."""
+    """The line that does so many steps (`word` is b"run") or undoes them (b"back"). Nothing is checked."""
     return b'{"do":"%s","n":%d}' % (word, n)
 
 
 def set_side(side: Any) -> Call[None]:
-    """Changes the side."""
+    """The call that changes the side."""
     side = number(side, "side", 1, LARGEST)
     if side not in SIDES:
         raise ValueError(f"side is 128, 256 or 512, not {side}")
@@ -275,7 +277,7 @@ def set_side(side: Any) -> Call[None]:
 
 
 def colour_map(colours: Any) -> Call[None]:
-    """Gives each state a colour."""
+    """The call that gives each state a colour: sixteen numbers, that of state 0 first."""
     if isinstance(colours, (str, bytes)) or not isinstance(colours, Iterable):
         raise TypeError(f"colours are sixteen numbers from 0 to 15, not {colours!r:.60}")
     numbers = [number(colour, "a colour", 0, 15) for colour in colours]
@@ -285,13 +287,13 @@ def colour_map(colours: Any) -> Call[None]:
 
 
 def colours(row: Any, side: int) -> Call[str]:
-    """Shows the colours of a row's cells."""
+    """The call that returns the colours of a row's cells, as hexadecimal digits."""
     line = b'{"do":"colours","row":%d}' % number(row, "row", 0, side - 1)
     return Call([line], b'{"colours":"', _colours)
 
 
 def all_colours(side: int) -> Call[Array]:
-    """Shows the colours of all cells."""
+    """The call that returns the colours 0 to 15 of all cells, by row and column. It has a line for each row."""
 
     def read(replies: list[bytes]) -> Array:
         """The colours of all cells, by row and column."""
@@ -301,7 +303,7 @@ def all_colours(side: int) -> Call[Array]:
 
 
 def count(mask: Any) -> Call[int]:
-    """Counts cells by their states."""
+    """The call that counts the cells whose states are in the mask: 16 bits, or the states themselves."""
     if isinstance(mask, Iterable) and not isinstance(mask, (str, bytes)):
         mask = sum({1 << number(state, "a state", 0, 15) for state in mask})
     return Call([b'{"do":"count","mask":%d}' % number(mask, "mask", 0, 65_535)], b'{"count":', _count)
@@ -313,12 +315,12 @@ def load_line(reply: bytes) -> bytes:
 
 
 def save() -> Call[bytes]:
-    """Shows the whole machine."""
+    """The call that returns the line that loads the machine again."""
     return Call([SAVE], SAVE_HEAD, lambda replies: load_line(replies[0]))
 
 
 def load(saved: Any) -> Call[None]:
-    """Replaces the machine by one that was saved."""
+    """The call that replaces the machine by one that was saved. `saved` is its load line, with or without LF."""
     if not isinstance(saved, (bytes, bytearray)):
         raise TypeError(f"saved is the bytes that save() returns, not {saved!r:.60}")
     line = bytes(saved)
@@ -337,7 +339,7 @@ def side_of_load(line: bytes) -> int:
 
 
 def ask(line: Any) -> Call[dict[str, Any]]:
-    """Sends a line as it stands."""
+    """The call that sends a line as it stands, and returns the reply as a dict."""
     data = _line_of(line)
     if b"\n" in data:
         raise ValueError("a line ends where its LF stands, so it has none inside")
@@ -349,7 +351,8 @@ def ask(line: Any) -> Call[dict[str, Any]]:
 
 
 def _line_of(line: Any) -> bytes:
-    """A line as bytes, of a text or of bytes."""
+    """A line as bytes: of a text, of bytes, or of a mapping, which is spelled as JSON. Raises `TypeError` or
+    `ValueError`."""
     if isinstance(line, str):
         return text_of(line, "line").encode()
     if isinstance(line, (bytes, bytearray)):
@@ -373,7 +376,7 @@ def is_fault(reply: bytes) -> bool:
 
 
 def blank(side: int) -> bytes:
-    """The line that loads a machine as new as one of this side can be."""
+    """The line that loads a new machine of this side: cells 0, no rules, no cycle, and each state its own colour."""
     rows = [["0" * (side // 4)] * side] * 4
     machine = {
         "colours": list(range(16)),

@@ -18,17 +18,18 @@ class Placed:
         self._rows, self._x, self._y = rows, x, y
 
     def row_numbers(self) -> list[int]:
-        """The rows of the plane that are written."""
+        """The numbers of the rows that are written, from the upper one on, over the seam."""
         return [(self._y + at) % self.side for at in range(len(self._rows))]
 
     def whole_rows(self) -> Iterator[tuple[int, str]]:
-        """The rows with their digits, if they are as wide as the torus."""
+        """Each row's number and its new hexadecimal digits. Only for cells as wide as the torus."""
         if self._x == 0:
             return zip(self.row_numbers(), self._rows)
         return self.over(["0"] * len(self._rows))
 
     def over(self, old: list[str]) -> Iterator[tuple[int, str]]:
-        """The rows with their digits, if those of `row_numbers()` have been `old`."""
+        """Each row's number and its new hexadecimal digits. `old` are the digits of `row_numbers()` so far: cells
+        beside the picture stay."""
         side, beyond = self.side, self.side - 4 * len(self._rows[0])
         mask = turned((1 << self.width) - 1 << side - self.width, self._x, side)
         for row, digits, before in zip(self.row_numbers(), self._rows, old):
@@ -37,13 +38,15 @@ class Placed:
 
 
 def turned(bits: int, columns: int, side: int) -> int:
-    """A row of bits, moved east by so many columns, over the seam."""
+    """A row of `side` bits, column 0 the highest, moved east by so many columns, over the seam. A negative number moves
+    it west."""
     columns %= side
     return (bits >> columns | bits << side - columns) & (1 << side) - 1
 
 
 def placed(plane: Any, bits: Any, x: Any, y: Any, side: int) -> Placed:
-    """Checks where cells are to lie. Columns and rows may be negative or beyond the seam."""
+    """Checks where the cells `bits` are to lie, and returns them there. Columns and rows may be negative or beyond the
+    seam. Raises `TypeError` or `ValueError`."""
     plane = number(plane, "plane", 0, 3)
     x, y = number(x, "x", -(2**31), 2**31), number(y, "y", -(2**31), 2**31)
     grid = cells.grid_of(bits)
@@ -65,7 +68,7 @@ def padded(grid: Any, width: int) -> Any:
 
 
 def checked_density(density: Any) -> float:
-    """A share of 0 to 1."""
+    """Returns a number from 0 to 1 as a float. Raises `TypeError` or `ValueError` for anything else."""
     if isinstance(density, (bool, str, bytes)) or type(density).__name__ == "bool_":
         raise TypeError(f"density is a number from 0 to 1, not {density!r}")
     try:

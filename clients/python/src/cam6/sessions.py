@@ -49,8 +49,8 @@ class Connector:
         self.is_bound = False
 
     def find_seat(self, seconds: float) -> Connection:
-        """Opens a connection that has a seat: the last seat again if it is free, then any. Raises `Lost` or
-        `NoSeat`."""
+        """Opens a connection that has a seat, at the first host that gives one, from the last host on. Each host has
+        these seconds. If none gives one, raises `NoSeat` if a host had none free, else the first `Lost`."""
         last: Union[Lost, NoSeat, None] = None
         at = self.addresses.index(self.address)
         for address in self.addresses[at:] + self.addresses[:at]:
@@ -62,8 +62,8 @@ class Connector:
         raise last
 
     def _seat_at(self, address: Address, until: float) -> Connection:
-        """Tries the seats of one host in order, and returns a connection that has one. Raises `NoSeat` if none is free,
-        and `Lost`."""
+        """Tries the seats of one host in order, and returns a connection that has one. Raises `NoSeat` if none is free.
+        Raises `Lost` if the host answers otherwise, or not before `until` (of `time.monotonic()`)."""
         taken, end = 0, self.seats + 1
         for seat in self._order():
             if seat >= end:
@@ -91,7 +91,8 @@ class Connector:
         return first + [seat for seat in range(1, self.seats + 1) if seat != self.seat]
 
     def _first_reply(self, there: Connection, seat: int, seconds: float) -> bytes:
-        """Asks for a seat, and returns the reply. Closes the connection if there is none."""
+        """Asks for a seat, and returns the reply. If none comes within `seconds`, at most 10, closes the connection and
+        raises `Lost`."""
         replies: list[bytes] = []
         try:
             there.exchange([b'{"seat":%d}' % seat], replies.extend, time.monotonic() + min(TO_SIT, seconds))
@@ -101,7 +102,8 @@ class Connector:
         return replies[0]
 
     def _why_none(self, address: Address, taken: int, end: int) -> str:
-        """Says why no seat was free, and what to do."""
+        """The sentence for `NoSeat`: why no seat was free, and what to do. `taken` counts the taken seats, and `end` is
+        the first seat that was not tried."""
         where = f"{address[0]}:{address[1]}"
         if self.is_bound and taken:
             return f"Seat {self.seat} at {where} is taken. Ask for another one, or wait until it is free."
@@ -113,7 +115,8 @@ class Connector:
 
 
 def take_seat(connector: Connector) -> Connection:
-    """Takes a seat for a connection without a journal. Waits for a seat that was just left."""
+    """Returns a connection that has a seat. If none is free, tries again for 0.5 seconds, then raises `NoSeat`. Raises
+    `Lost` at once."""
     until = time.monotonic() + TO_BE_FREE
     while True:
         try:
@@ -185,11 +188,11 @@ class Session:
         self.resumed = list(zip(waiting, self._finish_pending()))
 
     def _time_of_deadline(self) -> float:
-        """When the next call has to have made progress, by `time.monotonic()`."""
+        """When the next call has to have made progress, by `time.monotonic()`. Infinity without a deadline."""
         return float("inf") if self.deadline is None else time.monotonic() + self.deadline
 
     def _patience(self) -> float:
-        """Seconds after which a silent host is left for another one."""
+        """Seconds after which a silent host is left for another one: a third of the deadline. Infinity without one."""
         return float("inf") if self.deadline is None else self.deadline / 3
 
     # Lines
@@ -216,8 +219,8 @@ class Session:
         return replies
 
     def _finish_pending(self) -> list[bytes]:
-        """Sends the commands without a reply, at as many seats as it takes, and returns all their replies. Raises
-        `GaveUp` if there is no progress before the deadline."""
+        """Sends the commands without a reply, at as many seats as it takes, and returns all their replies in order.
+        Raises `GaveUp` if there is no progress before the deadline, which drops what is left, and `Diverged`."""
         replies: list[bytes] = []
         until, wait = self._time_of_deadline(), FIRST_WAIT
         self._is_sent = False
@@ -241,12 +244,13 @@ class Session:
         return replies
 
     def _why_given_up(self, cause: Exception) -> str:
-        """Says which command could not be done, and what failed last."""
+        """The sentence for `GaveUp`: which command could not be done, and what failed last."""
         what = "A host was lost each time that it did" if self._is_sent else "No host could do"
         return f"{what} {shortened(self.journal.pending[0])}, for {self.deadline:g} seconds. At last: {cause}"
 
     def _send(self, replies: list[bytes], until: float) -> None:
-        """Sends what is not answered: all up to a long run, or a part of one."""
+        """Sends the pending commands before the first long run, or one part of it if it comes first. Replies go to the
+        journal and to `replies`. If the exchange fails, leaves the seat and raises."""
         there = self._there
         assert there is not None
         pending = list(self.journal.pending)
@@ -275,7 +279,7 @@ class Session:
             self._checkpoint_if_due()
 
     def _most_steps(self) -> int:
-        """How many steps take about as long as a checkpoint is to be away."""
+        """The most steps of one line: as many as take about `every_seconds`, 1 to 65,535."""
         return max(1, min(lines.MOST_STEPS, int(self._rate * max(self.every_seconds, 0.01))))
 
     def _is_long(self, line: bytes) -> bool:
@@ -284,7 +288,8 @@ class Session:
         return found is not None and self._most_steps() < int(found[2]) <= lines.MOST_STEPS
 
     def _send_part(self, there: Connection, line: bytes, heard: Heard, until: float) -> None:
-        """Does a part of a long run. If a part is refused, the whole is."""
+        """Does a part of the long run `line`, and notes it in the journal. If the part is refused, `heard` gets that
+        reply as the one to the whole run."""
         found = lines.STEPS.fullmatch(line)
         assert found is not None
         steps = self._most_steps()
@@ -333,7 +338,9 @@ class Session:
     # Seats
 
     def _recover(self, until: float, cause: Lost) -> None:
-        """Takes a seat and makes its machine the one that counts, as soon as a host is there. Raises `GaveUp`."""
+        """Takes a seat and brings its machine to the session's state by the journal, again and again until that
+        succeeds. Raises `GaveUp` from the last failure once `until` is over (from `cause` if nothing was tried), and
+        `Diverged` at once."""
         wait = FIRST_WAIT
         last: Union[Lost, NoSeat] = cause
         while True:
@@ -351,7 +358,8 @@ class Session:
             wait = pause_before_retry(wait, until)
 
     def _rebuild(self, there: Connection, until: float) -> None:
-        """Makes the machine at a seat the one that counts. What was there is somebody's, so it is always loaded."""
+        """Loads the saved machine at the seat, plays the commands since then, and keeps the connection. Raises
+        `Diverged` if the limit or a reply differs, and `Lost`. Then the connection is closed."""
         try:
             self._compare_limit(there, until)
             known = [(self.journal.load, lines.LOADED), *self.journal.tail]
@@ -371,7 +379,8 @@ class Session:
         self._there = there
 
     def _compare_limit(self, there: Connection, until: float) -> None:
-        """Raises `Diverged` if the host's largest side is not that of the session."""
+        """Raises `Diverged` if the host's largest side is not that of the session. Asks for larger sides to find out,
+        so the machine at the seat may be blank after it."""
         replies: list[bytes] = []
         there.exchange([b'{"do":"side","side":512}', b'{"do":"side","side":256}'], replies.extend, until)
         limit = next((side for side, reply in zip((512, 256), replies) if reply == b'{"ok":"side"}'), 128)
@@ -395,7 +404,7 @@ class Session:
 
 
 def chunks_of(sent: Sequence[bytes]) -> Iterator[list[bytes]]:
-    """The lines, as many at a time as are written to the journal at once."""
+    """The lines in their order, in lists of at most 1,000 lines and 1 MiB. A longer line stands alone."""
     chunk: list[bytes] = []
     size = 0
     for line in sent:
@@ -409,6 +418,7 @@ def chunks_of(sent: Sequence[bytes]) -> Iterator[list[bytes]]:
 
 
 def pause_before_retry(wait: float, until: float) -> float:
-    """Waits about so many seconds, but not beyond `until`. Returns how long to wait the next time."""
+    """Sleeps for `wait` seconds, times 0.5 to 1.5 at random, but not beyond `until`. Returns the next wait: twice as
+    long, 1 second at most."""
     time.sleep(max(0.0, min(wait * random.uniform(0.5, 1.5), until - time.monotonic())))
     return min(LONGEST_WAIT, 2 * wait)

@@ -100,7 +100,7 @@ def connect(
 
 
 def machine_on(transport: Channel) -> Machine:
-    """Returns the machine on a channel. Closes the channel if it doesn't answer."""
+    """Returns the machine on a channel. If it doesn't answer, closes the channel and raises `Lost`."""
     try:
         return Machine(transport, side_of(transport))
     except BaseException:
@@ -109,7 +109,8 @@ def machine_on(transport: Channel) -> Machine:
 
 
 def checked_limit(value: Any, name: str) -> int:
-    """A side that may be the limit of a machine."""
+    """Returns a side that may be the limit of a machine. Raises `TypeError` or `ValueError`, which says `name`, unless
+    it is 128, 256 or 512."""
     limit = lines.number(value, name, 1, lines.LARGEST)
     if limit not in SIDES:
         raise ValueError(f"{name} is 128, 256 or 512, not {limit}")
@@ -117,7 +118,8 @@ def checked_limit(value: Any, name: str) -> int:
 
 
 def checked_seconds(value: Any, name: str, is_zero_taken: bool) -> float:
-    """A number of seconds."""
+    """Returns a number of seconds as a float: above 0, or from 0 if `is_zero_taken`, and below 1,000,000. Raises
+    `TypeError` or `ValueError`, which says `name`."""
     if isinstance(value, (bool, str, bytes)):
         raise TypeError(f"{name} is a number of seconds, not {value!r:.60}")
     try:
@@ -130,14 +132,15 @@ def checked_seconds(value: Any, name: str, is_zero_taken: bool) -> float:
 
 
 def checked_tls(value: Any) -> Union[None, bool, ssl.SSLContext]:
-    """Whether to speak TLS, and how."""
+    """Returns `value` if it is None, a truth value or an `ssl.SSLContext`. Raises `TypeError` if not."""
     if value is None or isinstance(value, (bool, ssl.SSLContext)):
         return value
     raise TypeError(f"tls is None, True or an ssl.SSLContext, not {value!r:.60}")
 
 
 def checked_addresses(hosts: Any, port: int) -> list[Address]:
-    """The addresses of one host or of several, without the second of equal ones."""
+    """The addresses of one host or of a list, without the second of equal ones. `port` is for those without their own.
+    Raises `TypeError` or `ValueError`."""
     if isinstance(hosts, str):
         hosts = [hosts]
     elif not isinstance(hosts, Sequence) or isinstance(hosts, (bytes, bytearray)):
@@ -149,7 +152,8 @@ def checked_addresses(hosts: Any, port: int) -> list[Address]:
 
 
 def checked_address(host: Any, port: int) -> Address:
-    """An address of a name, of a name with a port, or of a pair of both."""
+    """The address of a name, which gets `port`, of a text "name:port", or of a pair of both. Raises `TypeError` or
+    `ValueError`."""
     if isinstance(host, str):
         name, colon, own = host.partition(":")
         if colon and ":" not in own:
