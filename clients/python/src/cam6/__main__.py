@@ -87,7 +87,7 @@ def add_numbers(part: argparse.ArgumentParser) -> None:
 
 
 def lines_of(path: str) -> list[bytes]:
-    """The lines of a file, or of standard input."""
+    """The lines of a file, or of standard input if the path is `-`, without their LF."""
     if path == "-":
         data = sys.stdin.buffer.read()
     else:
@@ -114,7 +114,7 @@ def play_lines(machine: Machine, sent: Sequence[bytes], path: str, is_printed: b
 
 
 def play(asked: argparse.Namespace) -> int:
-    """Sends the lines of a file, and prints the replies."""
+    """Sends the lines of a file, and prints the replies. Returns the exit status: 1 if a line was refused."""
     sent = lines_of(asked.file)
     with local(asked.program, asked.side_limit) as machine:
         faults = play_lines(machine, sent, asked.file, True)
@@ -134,7 +134,7 @@ def find_lines_file(name: str) -> str:
 
 
 def film(asked: argparse.Namespace) -> int:
-    """Makes an animated PNG file."""
+    """Makes an animated PNG file. Returns the exit status. If a line was refused, it is 1 and no file is written."""
     path = find_lines_file(asked.name)
     with local(asked.program, asked.side_limit) as machine:
         if play_lines(machine, lines_of(path), path, False):
@@ -147,7 +147,8 @@ def film(asked: argparse.Namespace) -> int:
 
 
 def seats(asked: argparse.Namespace) -> int:
-    """Prints which seats are free. Each seat is taken for a moment to find that out."""
+    """Prints which seats are free, and takes each for a moment to find out. Returns the exit status: 1 if no host
+    answers."""
     address = checked_address(asked.address, 6006)
     for seat in range(1, MOST_SEATS + 1):
         there = open_connection(address, None, None, 5)
@@ -160,13 +161,13 @@ def seats(asked: argparse.Namespace) -> int:
 
 
 def report_no_host(address: str, reply: bytes) -> int:
-    """Prints that something else than a host answers at an address. Returns the exit status."""
+    """Prints that something else than a host answers at an address. Returns the exit status 1."""
     print(f"cam6 seats: {address} answers {reply[:60]!r}. Does cam6 serve really run there?", file=sys.stderr)
     return 1
 
 
 def keep(asked: argparse.Namespace) -> int:
-    """Saves the machine of a seat."""
+    """Saves the machine of a seat in a file, as its load line. Returns the exit status 0."""
     from . import connect
 
     with connect(asked.address, seat=asked.seat, seats=MOST_SEATS) as machine:

@@ -49,7 +49,8 @@ def bits_of(rows: Sequence[str], side: int) -> Array:
 
 
 def bits_of_digits(digits: bytes, side: int) -> Array:
-    """The bits of rows whose digits stand one after another without anything between them."""
+    """The bits of rows of `side` cells, whose digits stand one after another without anything between them. Raises
+    ValueError."""
     try:
         data = unhexlify(digits)
     except NotHex:
@@ -80,7 +81,8 @@ def rows_of(bits: Any) -> list[str]:
 
 
 def grid_of(bits: Any) -> Any:
-    """The cells as a checked array of 0 and 1: a numpy array of uint8 if these are one, else a list of bytes."""
+    """The cells as a checked array of 0 and 1: a numpy array of uint8 if they are one, else a list of bytes. Raises
+    TypeError or ValueError."""
     module = numpy()
     if module is not None and isinstance(bits, module.ndarray):
         return _numpy_grid(module, bits)
@@ -155,7 +157,7 @@ def digits_of(bits: Row, side: int) -> str:
 
 
 def _checked_digits(digits: str, side: int) -> str:
-    """The digits of a row in small letters. Raises ValueError if there are not as many as a row has."""
+    """The digits of a row, as they are. Raises ValueError unless there are `side` / 4, all hexadecimal."""
     if len(digits) * 4 != side:
         raise ValueError(f"bits has {side // 4} hexadecimal digits at side {side}, not {len(digits)}")
     if digits.strip(HEX):

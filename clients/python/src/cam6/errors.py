@@ -292,7 +292,7 @@ def fault_of(reply: bytes, line: bytes) -> Fault:
 
 @lru_cache(maxsize=None)
 def sentences(number: int) -> tuple[str, str, str]:
-    """The title of a number, what happened, and what to do."""
+    """The title of a number, what happened, and what to do. Three empty texts if there is no such number."""
     data = pkgutil.get_data(__package__, "errors.json") or b""
     for entry in json.loads(data)["errors"]:
         if entry["number"] == number:
@@ -301,7 +301,7 @@ def sentences(number: int) -> tuple[str, str, str]:
 
 
 def shortened(data: bytes, most: int = 80) -> str:
-    """Bytes as text for a message, cut after so many."""
+    """Bytes as quoted text for a message: the first `most` of them, and `..` if there are more."""
     text = data[:most].decode("utf-8", "replace")
     return repr(text) + (".." if len(data) > most else "")
 
@@ -316,7 +316,8 @@ def command_of(line: bytes) -> dict[str, Any]:
 
 
 def shown_token(text: object, token: int) -> str:
-    """The line of a text that has the token, with a caret under it."""
+    """The line of a text that has the token (from 1), with a caret under it. "" if the token is 0, or if `text` is no
+    str."""
     if not isinstance(text, str) or token == 0:
         return ""
     found = list(re.finditer(r"[^ \t\r\n]+", text))
@@ -337,7 +338,8 @@ def shown_token(text: object, token: int) -> str:
 
 
 def shown_address(command: dict[str, Any], address: int) -> str:
-    """The names that are 1 at an address."""
+    """The address, and the names that are 1 there by the command's neighbourhood and minor assignment, if it has
+    these."""
     names = names_at(str(command.get("hood")), str(command.get("minor")), address)
     if names is None:
         return f"address {address}"

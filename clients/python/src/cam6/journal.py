@@ -156,7 +156,7 @@ class Journal:
     # What happens, in memory and in the file
 
     def record_commands(self, commands: Sequence[bytes]) -> None:
-        """Notes commands before they are sent. Raises `OSError` if they can't be written, and then nothing has changed."""
+        """Notes commands before they are sent. Raises `OSError` if they can't be written, and then nothing is noted."""
         self._write([{"ask": text_of(command)} for command in commands], self.sync == "each", is_known=False)
         self.pending.extend(commands)
         self.number += len(commands)

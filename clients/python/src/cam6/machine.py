@@ -198,7 +198,7 @@ class Machine:
         self._now(self._rule(name, text, half, hood, minor))
 
     def _rule(self, name: Any, text: Any, half: Any, hood: Any, minor: Any) -> Call[None]:
-        """The call that defines a rule, given by its parts or as a value."""
+        """The call that defines a rule, given by its parts or as a value. Notes its half and its name at once."""
         if text is None and hasattr(name, "text"):
             name, text = getattr(name, "name", None), name
         if isinstance(text, str) or not hasattr(text, "text"):
@@ -240,7 +240,7 @@ class Machine:
         return lines.cycle(spelled, self._halves)
 
     def _entries_of(self, value: Any) -> list[dict[str, Any]]:
-        """The entries of a rule's own cycle."""
+        """The entries of a rule's own cycle. Raises ValueError if the rule has no name."""
         name = self._names.get(value) or getattr(value, "name", None)
         if not name:
             raise ValueError("this rule has no name yet: define it with rule(name, value) first")
@@ -395,6 +395,6 @@ def _truth(value: Any, name: str) -> bool:
 
 
 def side_of(transport: Transport) -> int:
-    """The side of the machine on a channel, which stays as it is."""
+    """The side of the machine on a channel, found by a `row` line. The machine stays as it is."""
     reply = transport.query([lines.row_line(0, 0)])[0]
     return len(lines.digits_of_reply(reply)) * 4

@@ -159,7 +159,7 @@ def _header(line: str, number: int) -> Pattern:
 
 
 def _remarks(pattern: Pattern) -> Pattern:
-    """The pattern with the place and the generation that its comments give."""
+    """The pattern with the place and the generation that its comments give, the last ones counting."""
     for line in pattern.comments.split("\n"):
         if found := re.match(r"#CXRLE\b.*?\bPos\s*=\s*(-?\d+)\s*,\s*(-?\d+)", line) or re.match(
             r"#[PR]\s+(-?\d+)\s+(-?\d+)", line
@@ -174,7 +174,7 @@ _SIGNS = re.compile(r"[ \t\r]*(?:(\d*)([p-y]?[A-X]|[bo.$])|(!)|(\S))")
 
 
 def _rows(pattern: Pattern, lines: List[str], header: int) -> Rows:
-    """The rows of the cells after the header."""
+    """The rows of the cells after line `header`, each as wide as the pattern. Raises PatternError with the place."""
     rows = [bytearray() for _ in range(pattern.height)]
     y = 0
     for number, line in enumerate(lines[header:], header + 1):
@@ -234,7 +234,8 @@ def write(pattern: Union[Pattern, Any], *, rule: str = "", x: int = 0, y: int = 
 
 
 def _rows_of(cells: Any) -> Rows:
-    """Rows of states, from an array or any rows of numbers."""
+    """Rows of states as bytes, from an array or any rows of numbers. Raises PatternError if rows differ in length, or a
+    state is none."""
     rows = []
     for row in cells:
         try:
@@ -286,7 +287,7 @@ def _rle_run(count: int, sign: str) -> str:
 
 
 def _wrapped(runs: Iterator[str]) -> str:
-    """The runs as lines that are not too long."""
+    """The runs as lines of 70 bytes at most, each with its LF. No run is cut."""
     lines, line = [], ""
     for run in runs:
         if len(line) + len(run) > LINE:
@@ -367,7 +368,8 @@ class Emulated:
         return _array(_plane(states, 0)), _array(_plane(states, 1)), grids
 
     def _place(self, side: int, x: Optional[int], y: Optional[int]) -> Tuple[int, int]:
-        """The given place, or the middle, so that a grid has the blocks."""
+        """The given column and row, or the middle for None. If `y` is None it is moved by one if no grid would have the
+        blocks."""
         if x is None:
             x = (side - self.width) // 2
         if y is None:
@@ -429,7 +431,8 @@ def emulated(
 
 
 def _corner(pattern: Pattern) -> Tuple[int, int]:
-    """The column and the row, each 0 or 1, of the marks."""
+    """The column and the row, each 0 or 1, of the marks. Raises PatternError if there are none, or if they are on
+    several grids."""
     corner: Optional[Tuple[int, int]] = None
     for y, row in enumerate(pattern.rows):
         for found in re.finditer(rb"[" + _ODD + rb"]", row):
@@ -456,7 +459,8 @@ _ODD = b"".join(re.escape(bytes([state])) for state in range(1, 256, 2))
 
 
 def _rule_of(pattern: Pattern, rule: Union[Rule, str, Sequence[int], None], states: int, is_open: bool) -> Rule:
-    """The rule of a pattern of so many states. If it is open, what lies outside has a state of its own."""
+    """The rule of a pattern of so many states. If it is open, what lies outside has a state of its own. Raises
+    PatternError if there is no such rule."""
     name = pattern.rule.split(":")[0]
     if isinstance(rule, Rule):
         return rule
@@ -475,7 +479,8 @@ def _rule_of(pattern: Pattern, rule: Union[Rule, str, Sequence[int], None], stat
 
 
 def _open_rule(table: str, states: int, name: str) -> Rule:
-    """The rule of a table with an outside, for the fewest states that stay among themselves."""
+    """The rule of a table with an outside, for the fewest states that stay among themselves. Raises RuleError if that
+    takes four."""
     for fewer in range(max(2, states), 4):
         try:
             return rules.margolus_table(table, states=fewer, edge=True, name=name)

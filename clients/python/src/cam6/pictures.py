@@ -65,7 +65,7 @@ class Picture:
         return self.png()
 
     def _depth(self) -> int:
-        """The bits of a pixel that the largest colour needs."""
+        """The bits of a pixel that the largest colour needs: 1, 2 or 4."""
         most = max(max(row) for row in self._rows)
         return 1 if most < 2 else 2 if most < 4 else 4
 
@@ -237,7 +237,8 @@ def lights_of(palette: Optional[Palette] = None) -> List[Light]:
 
 
 def _colour_rows(cells: Any, colours: Optional[Sequence[int]]) -> List[bytes]:
-    """The rows of cells as bytes of colours."""
+    """The rows of cells, a byte a cell: its colour 0 to 15. Raises PictureError for other numbers, or rows that differ
+    in length."""
     rows = _array_rows(cells) if hasattr(cells, "dtype") else [_row(row) for row in cells]
     if not rows or not rows[0]:
         raise PictureError("a picture has one cell at least")
@@ -266,7 +267,8 @@ def _array_rows(cells: Any) -> List[bytes]:
 
 
 def _row(row: Any) -> bytes:
-    """A row of cells as bytes. Raises PictureError if it is none."""
+    """A row of cells as bytes, one a cell. Raises PictureError if it is none. Numbers of 16 and more are not
+    refused."""
     if isinstance(row, (bytes, bytearray)):
         return bytes(row)
     try:
@@ -276,7 +278,7 @@ def _row(row: Any) -> bytes:
 
 
 def _cropped(rows: List[bytes], crop: Optional[Crop]) -> List[bytes]:
-    """The rows of a window, which may reach round the torus."""
+    """The rows of a window, which may reach round the torus, or all rows for None. Raises PictureError."""
     if crop is None:
         return rows
     try:
@@ -304,7 +306,7 @@ def _checked_number(what: str, number: Any, least: int, most: int) -> int:
 
 
 def _hue(light: Light) -> int:
-    """A terminal's number for a colour: the nearest one of its cube of 6 by 6 by 6."""
+    """The terminal's number for a colour, 16 to 231: the nearest one of its cube of 6 by 6 by 6."""
     steps = [0 if amount < 48 else 1 if amount < 115 else (amount - 35) // 40 for amount in light]
     return 16 + 36 * steps[0] + 6 * steps[1] + steps[2]
 
@@ -320,7 +322,7 @@ def _png_file(head: Sequence[bytes], *chunks: bytes) -> bytes:
 
 
 def _end_of(path: Union[str, "os.PathLike[str]"]) -> str:
-    """The ending of a file's name, in small letters."""
+    """The ending of a file's name with its point, in small letters, or ""."""
     return os.path.splitext(os.fspath(path))[1].lower()
 
 

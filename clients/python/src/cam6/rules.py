@@ -87,7 +87,7 @@ class Rule:
 
 
 def _checked_cycle(cycle: Iterable[Sequence[Any]]) -> Tuple[Tuple[str, int], ...]:
-    """The grids and phases of a cycle. Raises RuleError if they are none."""
+    """The grids and phases of a cycle of 1 to 16 entries, as pairs. Raises RuleError if they are none."""
     entries = tuple(tuple(entry) for entry in cycle)
     if not 1 <= len(entries) <= 16:
         raise RuleError(f"a cycle has 1 to 16 entries, not {len(entries)}")
@@ -172,7 +172,9 @@ def generations(notation: str, *, half: str = "A") -> Rule:
 def _births_and_survivals(
     notation: str, named: str, bare: str, states_at: int = 0
 ) -> Tuple[List[int], List[int], bool, int]:
-    """The counts of births and survivals, whether there are four neighbours, and the number of states."""
+    """The counts of births and of survivals, whether there are four neighbours, and the number of states. `named` and
+    `bare` are the patterns of the two notations, `states_at` the group of the number (0: 2 states). Raises
+    RuleError."""
     if not isinstance(notation, str):
         raise RuleError(f"a notation is a text such as B3/S23, not {notation!r:.40}")
     text = notation.strip().upper()
@@ -185,7 +187,8 @@ def _births_and_survivals(
 
 
 def _counted(neighbours: int) -> Tuple[str, str]:
-    """The words that count four or eight neighbours, and the neighbourhood that has them."""
+    """The words that count four or eight neighbours, and the neighbourhood that has them. Raises RuleError for another
+    number."""
     if neighbours not in (4, 8):
         raise RuleError(f"a cell has 4 or 8 neighbours, not {neighbours!r}")
     return (_EIGHT, "N/MOORE") if neighbours == 8 else (_FOUR, "N/VONN")
@@ -201,7 +204,7 @@ def _checked_counts(counts: Iterable[int], most: int) -> List[int]:
 
 
 def _digits(counts: str) -> str:
-    """The digits of a list of counts, without the M in front."""
+    """The digits of a text of counts, without an M in front. Raises RuleError if it has anything else."""
     digits = counts.strip().upper()
     digits = digits[1:] if digits.startswith("M") else digits
     if not re.fullmatch("[0-9]*", digits):
@@ -317,7 +320,7 @@ class _Table:
         return block
 
     def bound(self, left: Sequence[str], block: Block) -> Optional[Dict[str, int]]:
-        """The values of the variables by which the left side is this block."""
+        """The values of the variables by which the left side is this block, or None if it is not."""
         found: Dict[str, int] = {}
         for word, state in zip(left, block):
             if word in self.variables:
@@ -329,7 +332,7 @@ class _Table:
 
 
 def _table_of(text: str) -> _Table:
-    """Reads a rule table of Golly. Raises RuleError with the line."""
+    """Reads a rule table of Golly. Raises RuleError, with the line if one is to blame."""
     table, is_margolus = _Table(), False
     for number, line in enumerate(text.splitlines(), 1):
         line = line.lstrip("# \t").split("#")[0].strip()
@@ -355,7 +358,7 @@ def _table_of(text: str) -> _Table:
 
 
 def _bits(number: int) -> Block:
-    """The four cells of a block, by its number's bits."""
+    """The four cells of a block 0 to 15, that of bit 0 first: upper left, upper right, lower left, lower right."""
     return number & 1, number >> 1 & 1, number >> 2 & 1, number >> 3 & 1
 
 
@@ -381,7 +384,8 @@ def _by_corner(after: Callable[[Block], Sequence[int]], states: int) -> List[Lis
 
 
 def _block_body(tables: List[List[int]], names: Sequence[str]) -> Tuple[str, str]:
-    """The neighbourhood, and words that leave what a cell becomes."""
+    """The neighbourhood, and words that leave what a cell becomes. `tables` are those of `_by_corner`, and `names` what
+    a cell sees, by the bits of their index."""
     terms = [([name], 1 << k) for k, name in enumerate(names)]
     if all(table == tables[0] for table in tables):
         return "N/MARG", _case(terms, tables[0])
@@ -443,7 +447,8 @@ def _name_of(parameter: str) -> str:
 
 
 def _wiring_of(parameters: List[str], hood: Optional[str], minor: Optional[str]) -> Tuple[str, str, List[str]]:
-    """The neighbourhood, the minor assignment, and the name that each parameter has there."""
+    """The neighbourhood, the minor assignment, and the name of each parameter there. The first ones that have all names
+    are taken for None. Raises RuleError if none has."""
     for chosen, known in ((hood, HOODS), (minor, MINORS)):
         if chosen is not None and chosen not in known:
             raise RuleError(f"{chosen!r} is none of {', '.join(known)}")
@@ -469,7 +474,8 @@ def _name_in_wiring(name: str, hood: str, minor: str) -> Optional[str]:
 
 
 def _values(function: Callable[..., Any], count: int) -> Tuple[List[int], bool]:
-    """What the function returns at each address, as lower + 2 upper, and whether it returns pairs."""
+    """What the function returns at each address of `count` bits, as lower + 2 upper, and whether it returns pairs.
+    Raises RuleError."""
     if count > 12:
         raise RuleError(f"the function has {count} parameters, and a rule sees twelve names")
     returned = [function(*(address >> k & 1 for k in range(count))) for address in range(1 << count)]
@@ -520,7 +526,7 @@ def _words_for(names: List[str], values: List[int]) -> str:
 
 
 def _needed(names: List[str], values: List[int]) -> Tuple[List[str], List[int]]:
-    """The names on which the values depend, and the values by these names alone."""
+    """The names on which the values depend, and the values by these names alone. `values` has one for each address."""
     for k in reversed(range(len(names))):
         low, high = _halves(values, k)
         if low == high:
@@ -537,7 +543,7 @@ def _halves(values: List[int], k: int) -> Tuple[List[int], List[int]]:
 
 
 def _estimate(names: List[str], values: List[int]) -> int:
-    """How long the words of a flat case would be."""
+    """The size that the words of a flat case would have, or 1 if the values are all equal."""
     names, values = _needed(names, values)
     return _size(_flat_case(names, values)) if names else 1
 
@@ -557,7 +563,7 @@ def _flat_case(names: List[str], values: List[int]) -> str:
 
 
 def _classes(names: List[str], values: List[int]) -> List[List[int]]:
-    """The names in groups, any two of which can change places."""
+    """The names in groups, any two of which can change places. A name stands as its index."""
     groups: List[List[int]] = []
     for k in range(len(names)):
         for group in groups:
@@ -647,7 +653,7 @@ def cause(rule: Rule) -> Optional[Cause]:
 
 
 def _image(program: words.Program, state: int, phase: int) -> int:
-    """What a state of a block becomes."""
+    """The state 0 to 255 that a block of this state becomes at a phase 0 to 3. The bits are as for `Cause`."""
     image = 0
     for place in range(4):
         seen = {"PHASE": phase & 1, "PHASE'": phase >> 1, "HORZ": int(place in (1, 2)), "VERT": int(place in (2, 3))}
@@ -674,7 +680,7 @@ def _both(half: str) -> str:
 
 
 def _number(value: Any) -> int:
-    """A whole number. True and False are none, and numbers of numpy are."""
+    """Returns a whole number, also of numpy, as an int. Raises RuleError for anything else, and for True and False."""
     if isinstance(value, bool):
         raise RuleError(f"{value} is no number")
     try:
@@ -684,7 +690,7 @@ def _number(value: Any) -> int:
 
 
 def _listed(values: Any) -> List[Any]:
-    """The values as a list."""
+    """The values as a list. Raises RuleError if they are none."""
     try:
         return list(values)
     except TypeError:

@@ -63,7 +63,7 @@ class Connector:
 
     def _seat_at(self, address: Address, until: float) -> Connection:
         """Tries the seats of one host in order, and returns a connection that has one. Raises `NoSeat` if none is free.
-        Raises `Lost` if the host answers otherwise, or not before `until` (of `time.monotonic()`)."""
+        Raises `Lost` if the host can't be reached, or answers otherwise or not before `until`."""
         taken, end = 0, self.seats + 1
         for seat in self._order():
             if seat >= end:
@@ -102,8 +102,8 @@ class Connector:
         return replies[0]
 
     def _why_none(self, address: Address, taken: int, end: int) -> str:
-        """The sentence for `NoSeat`: why no seat was free, and what to do. `taken` counts the taken seats, and `end` is
-        the first seat that was not tried."""
+        """The sentence for `NoSeat`: why no seat was free, and what to do. `taken` counts the taken seats. `end` is the
+        first seat that the host doesn't have, or `seats` + 1."""
         where = f"{address[0]}:{address[1]}"
         if self.is_bound and taken:
             return f"Seat {self.seat} at {where} is taken. Ask for another one, or wait until it is free."

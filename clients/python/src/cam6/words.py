@@ -97,7 +97,7 @@ class Program:
         return signs or known or named or _is_number(token)
 
     def _body(self, tokens: List[Token], at: int) -> Tuple[Body, int]:
-        """The body up to a `;`, and where the text goes on."""
+        """The body up to a `;`, and the index of the token after that. `at` is where it begins. Raises WordError."""
         whole: Body = []
         opened: List[Choice] = []
         while (at := _past_comments(tokens, at)) < len(tokens):
@@ -122,7 +122,7 @@ class Program:
         raise WordError("the text ends inside a definition", len(tokens))
 
     def _case(self, tokens: List[Token], at: int) -> Tuple[Case, int]:
-        """The words up to a `}`, and where that is."""
+        """The words up to a `}`, and the index of that. `at` is where they begin. Raises WordError."""
         case = Case()
         while (at := _past_comments(tokens, at)) < len(tokens):
             if tokens[at] == "}":
@@ -132,7 +132,8 @@ class Program:
         raise WordError("the text ends inside braces", len(tokens))
 
     def _word(self, token: Token, at: int) -> Token:
-        """Checks a token within a body, and notes the name if a neighbour has it."""
+        """Returns a token within a body, and notes the name if a neighbour has it. Raises WordError if it is no
+        word."""
         if token in self.neighbours:
             if token not in self.names:
                 self.names.append(token)
@@ -146,7 +147,8 @@ class Program:
         return token
 
     def at(self, seen: Mapping[str, int]) -> Tuple[int, int]:
-        """The new bits of a cell, lower and upper, for the bits that it sees under its names."""
+        """The new bits of a cell, lower and upper, for the bits that it sees under its names. Raises WordError if the
+        rule stops."""
         sight = (seen["CENTER"], seen["CENTER'"], *(seen[name] for name in self.names))
         if sight not in self._bits_at:
             written = [seen["CENTER"], seen["CENTER'"]]
@@ -202,7 +204,7 @@ def _is_number(token: Token) -> bool:
 
 
 def _past_comments(tokens: List[Token], at: int) -> int:
-    """The index of the first token from `at` on that is in no comment."""
+    """The index of the first token from `at` on that is in no comment, or how many there are if there is none."""
     while at < len(tokens) and tokens[at] == "(":
         begin = at
         at += 1
@@ -215,7 +217,7 @@ def _past_comments(tokens: List[Token], at: int) -> int:
 
 
 def _pop(stack: List[int], count: int) -> List[int]:
-    """Removes the top values of the stack, and returns them, the topmost last."""
+    """Removes the top values of the stack, and returns them, the topmost last. Raises WordError if there are fewer."""
     if len(stack) < count:
         raise WordError(f"a word needs {count} values, and the stack has {len(stack)}")
     values = stack[-count:]
