@@ -24,7 +24,8 @@ BALLS = (
 
 
 def measured(what: str, act: Callable[[], Any], times: int, each: int = 1) -> None:
-    """Prints how many milliseconds an act takes, of which one has `each` parts."""
+    """Calls `act` once, and then `times` times. Prints the least and the median milliseconds of one of its `each`
+    parts."""
     act()
     taken = []
     for _ in range(times):
@@ -35,12 +36,13 @@ def measured(what: str, act: Callable[[], Any], times: int, each: int = 1) -> No
 
 
 def measure(machine: cam6.Machine, where: str, times: int) -> None:
-    """Prints how long calls of a machine take."""
+    """Prints how long calls of a machine take. `where` is its name in the table, and each is timed `times` times."""
     side = machine.side
     rows = [f"{row:0{side // 4}x}" for row in range(side)]
     array = cells.bits_of(rows, side)
 
     def set_all() -> None:
+        """Sets all rows of plane 0 by one pipeline."""
         many = machine.pipeline()
         for row in range(side):
             many.set_row(0, row, rows[row])

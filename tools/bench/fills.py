@@ -27,7 +27,7 @@ def size_of(unit: str) -> int:
 
 def rule(start: str, unit: str) -> Callable[[int], str]:
     """Returns a function that makes texts of a rule: the words of the start, and the unit again and again. Each number
-    gives another text."""
+    given to it makes another text."""
     size = size_of(unit)
 
     def text_of(number: int) -> str:
@@ -38,7 +38,7 @@ def rule(start: str, unit: str) -> Callable[[int], str]:
 
 
 def over(values: int) -> str:
-    """Words that push so many values, and one more."""
+    """Words that push so many values, and one more: `values` + 1 in all."""
     return " ".join(["1"] * (values + 1))
 
 
@@ -53,7 +53,7 @@ def downs(lines: Iterable[str], values: int = 1) -> str:
 
 
 def at_once(values: int = 1) -> str:
-    """Words that push values if a line is 1, and drop them at once, one line after another."""
+    """Words that push so many values if a line is 1, and drop them at once, for one line after another."""
     return " ".join(f"{ups([line], values)} {downs([line], values)}" for line in LINES)
 
 
@@ -87,14 +87,15 @@ RULES = {
 
 
 def random_rule(source: random.Random) -> tuple[str, Callable[[int], str]]:
-    """A random rule and its name. Some lines push values, and the same lines drop them in some order, with other words
-    between."""
+    """A random rule: its name, and the function that makes its texts. Some lines push values, and the same lines drop
+    them in some order, with other words between."""
     count = source.randint(1, 12)
     chosen = [(line, source.choice([1, 1, 1, 2])) for line in source.sample(LINES, count)]
     depth = source.randint(0, MOST_VALUES - sum(values for _, values in chosen))
     between = [f"{source.choice(LINES)} XOR", "SWAP", "DUP XOR"] if depth > 2 else [""]
 
     def words(way: Callable[..., str], order: list[tuple[str, int]]) -> list[str]:
+        """What `way` makes of each line and its number of values, in this order, with random words between."""
         return [
             f"{way([line], values)} {' '.join(source.choices(between, k=source.choice([0, 0, 0, 1, 2])))}"
             for line, values in order
@@ -106,7 +107,8 @@ def random_rule(source: random.Random) -> tuple[str, Callable[[int], str]]:
 
 
 def least_times(program: str, rules: dict[str, Callable[[int], str]], times: int) -> dict[str, float]:
-    """Defines each rule so many times. Returns the least milliseconds of each, without rules that are refused."""
+    """Defines each rule so many times. Returns the least milliseconds of each by its name, without rules that are
+    refused."""
     found = {}
     with subprocess.Popen([program, "alone"], stdin=subprocess.PIPE, stdout=subprocess.PIPE) as alone:
         assert alone.stdin and alone.stdout

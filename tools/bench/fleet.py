@@ -37,7 +37,8 @@ WAYS: dict[str, Connect] = {"without TLS": Fleet.user, "by TLS": Fleet.tls_user}
 
 @contextmanager
 def host(cam6: str, folder: Path, boards: int, side: int = 256) -> Iterator[tuple[Service, int]]:
-    """Runs a host of 32 users within the context. Yields it, and its port."""
+    """Runs a host of 32 users within the context, with so many boards and `side` as its limit. Yields it, and its
+    port."""
     port = Ground().port(7001)
     words = [cam6, "serve", "--port", str(port), "--users", "32", "--boards", str(boards), "--side", str(side)]
     service = Service(Ground(), "one", words, folder / "host.log")
@@ -55,7 +56,7 @@ def host(cam6: str, folder: Path, boards: int, side: int = 256) -> Iterator[tupl
 
 
 def take_seat(port: int, seat: int) -> Peer:
-    """Connects to a seat, as soon as it is free."""
+    """Connects to a seat of this computer, as soon as it is free. Waits for it without end."""
     while True:
         one = Peer(socket.create_connection(("127.0.0.1", port)))
         if one.ask(f'{{"seat":{seat}}}') != TAKEN:
@@ -64,7 +65,8 @@ def take_seat(port: int, seat: int) -> Peer:
 
 
 def prepare_user(port: int, seat: int, rule: str, side: int) -> Peer:
-    """Connects to a seat, and sets a rule, a cycle of it and some cells."""
+    """Connects to a seat, and sets the side, a rule of `RULES`, a cycle of it and some cells. Returns the
+    connection."""
     one = take_seat(port, seat)
     hood, minor, text = RULES[rule]
     entries = ",".join('{"a":"R","b":"-","grid":"%s","phase":0}' % grid for grid in ("EVEN", "ODD"))
@@ -88,6 +90,7 @@ def count_rounds(ones: list[Peer], lines: list[str], seconds: float) -> int:
     sent = "".join(f"{line}\n" for line in lines)
 
     def ask(at: int) -> None:
+        """Sends all lines as the user at this index, and reads the replies, again and again until the end."""
         while time.monotonic() < end:
             ones[at].send(sent)
             for _ in lines:

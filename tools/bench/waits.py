@@ -89,7 +89,7 @@ class Alone:
         self.process = subprocess.Popen([program, "alone"], stdin=pipe, stdout=pipe, bufsize=0)
 
     def ask(self, line: bytes) -> bytes:
-        """Sends a line, and returns the reply."""
+        """Sends a line, which ends with LF, and returns the reply with its LF."""
         assert self.process.stdin and self.process.stdout
         self.process.stdin.write(line)
         return read_line(self.process.stdout.fileno())
@@ -101,7 +101,7 @@ class Alone:
 
 
 def read_line(descriptor: int) -> bytes:
-    """Reads up to an LF."""
+    """Reads up to an LF from a file descriptor, and returns that with the LF. What came after it is returned too."""
     line = b""
     while not line.endswith(b"\n"):
         line += os.read(descriptor, 1 << 16)
@@ -137,13 +137,13 @@ class User:
         self.ask(b'{"seat":%d}\n' % number)
 
     def ask(self, line: bytes) -> bytes:
-        """Sends a line, and returns the reply."""
+        """Sends a line, which ends with LF, and returns the reply with its LF."""
         self.peer.sendall(line)
         return read_line(self.peer.fileno())
 
 
 def prepare(asked: Alone | User, lines: list[bytes]) -> None:
-    """Sends lines, and ends if one of them is refused."""
+    """Sends lines, and ends the script if one of them is refused."""
     for line in lines:
         reply = asked.ask(line)
         if b'"ok"' not in reply:
@@ -151,7 +151,7 @@ def prepare(asked: Alone | User, lines: list[bytes]) -> None:
 
 
 def waits(asked: Alone | User, count: int, pause: float) -> list[float]:
-    """The microseconds of so many commands of one step."""
+    """The microseconds of so many commands of one step, sorted. Waits for `pause` seconds before each."""
     found = []
     for _ in range(count):
         time.sleep(pause)
@@ -162,7 +162,7 @@ def waits(asked: Alone | User, count: int, pause: float) -> list[float]:
 
 
 def waits_for(asked: Alone | User, seconds: float) -> list[float]:
-    """The microseconds of commands of one step that are asked at random times for so many seconds."""
+    """The microseconds, sorted, of commands of one step that are asked at random times for so many seconds."""
     found, until, times = [], time.perf_counter() + seconds, random.Random(1)
     while time.perf_counter() < until:
         time.sleep(times.uniform(0, MOST_PAUSE))
@@ -173,7 +173,7 @@ def waits_for(asked: Alone | User, seconds: float) -> list[float]:
 
 
 def print_row(what: str, found: list[float]) -> float:
-    """Prints a row of the table: median, 99th percentile and longest. Returns the median."""
+    """Prints a row of the table: median, 99th percentile and longest of sorted microseconds. Returns the median."""
     median, late = found[len(found) // 2], found[min(len(found) - 1, len(found) * 99 // 100)]
     print(f"| {what} | {median:.0f} | {late:.0f} | {found[-1]:.0f} |", flush=True)
     return median
