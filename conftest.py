@@ -55,7 +55,7 @@ def program(name: str) -> Callable[..., str]:
 
     @pytest.fixture(scope="session", name=name)
     def path_of(request: pytest.FixtureRequest) -> str:
-        """The path of a program: the one that an option names, or the one that `./build` left."""
+        """The path of a program: the one an option names, else the one `./build` left. Fails if there is none."""
         named = request.config.getoption(name)
         path = built(name, named)
         if path is None and named:

@@ -56,7 +56,8 @@ def host(cam6: str, folder: Path, boards: int, side: int = 256) -> Iterator[tupl
 
 
 def take_seat(port: int, seat: int) -> Peer:
-    """Connects to a seat of this computer, as soon as it is free. Waits for it without end."""
+    """Connects to a seat of the host at a port, as soon as it is free, and returns the connection. Waits without end
+    for a taken one."""
     while True:
         one = Peer(socket.create_connection(("127.0.0.1", port)))
         if one.ask(f'{{"seat":{seat}}}') != TAKEN:

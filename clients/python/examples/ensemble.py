@@ -77,7 +77,7 @@ class Plan:
         return -(-self.steps // self.part)
 
     def span(self, number: int) -> tuple[int, int]:
-        """The step at which a part begins, and the one at which it ends."""
+        """The step at which a part begins, and the one at which it ends. Parts count from 0."""
         return number * self.part, min((number + 1) * self.part, self.steps)
 
     def name(self, rule: str, seed: int, number: int) -> str:
@@ -159,7 +159,7 @@ def counts_of_part(plan: Plan, rule: str, seed: int, number: int) -> Counts:
 
 
 def run_part(rule: str, seed: int, plan: Plan, number: int) -> tuple[Counts, float]:
-    """The counts of a part, and how many seconds it took here."""
+    """The counts of a part, and how many seconds it took here. Without a folder the part is the whole task."""
     began = time.perf_counter()
     if plan.folder is None:
         counts = run_machine(plan, rule, seed, plan.steps, None)[0]
@@ -240,7 +240,7 @@ def unfinished_parts(plan: Plan) -> list[str]:
 
 
 def worker_of(half: str) -> int:
-    """The process that writes a part, by the name of the part's file."""
+    """The id of the process that writes a part, by the name of the part's file."""
     return int(half.split(".")[-2])
 
 
@@ -307,7 +307,8 @@ def remove_cut_off(plan: Plan) -> int:
 
 
 def difference(plan: Plan, one: Done, other: Done) -> Optional[str]:
-    """Where the counts by Dask first differ from the serial ones, or None."""
+    """The first place where the counts by Dask (`other`) differ from the serial ones, as text, or None if they are
+    equal."""
     for (rule, seed), counts in one.counts.items():
         others = other.counts.get((rule, seed), [])
         for at in range(max(len(counts), len(others))):
@@ -318,7 +319,7 @@ def difference(plan: Plan, one: Done, other: Done) -> Optional[str]:
 
 
 def times_text(done: Done, way: str) -> str:
-    """How long the tasks took."""
+    """How long the tasks took, as a line that begins with `way`."""
     tasks = len(done.counts)
     each = 1000 * done.seconds * done.workers / tasks
     within = 1000 * done.within / tasks
@@ -369,7 +370,7 @@ def is_safe(address: str) -> bool:
 
 
 def why_refused(asked: argparse.Namespace) -> Optional[str]:
-    """Why the options can't be, or None."""
+    """The sentence that says why the options are refused, or None if they are not."""
     for name in ("seeds", "steps", "every", "part", "limit", "workers"):
         if getattr(asked, name) <= 0:
             return f"--{name} is above 0"

@@ -44,7 +44,8 @@ def lines_of(text: str) -> List[str]:
 
 
 def execute_cell(text: str, number: int, names: Dict[str, Any]) -> List[Dict[str, Any]]:
-    """Executes a cell, and returns its outputs."""
+    """Executes the text of a cell with the variables `names`, and returns its outputs as a notebook has them. `number`
+    counts its code cells from 1."""
     tree, last = ast.parse(text), None
     end = tree.body[-1] if tree.body else None
     if isinstance(end, ast.Expr):
@@ -68,7 +69,7 @@ def execute_cell(text: str, number: int, names: Dict[str, Any]) -> List[Dict[str
 
 
 def data_of(value: Any) -> Dict[str, Any]:
-    """How a notebook shows a value."""
+    """How a notebook shows a value, by the type of the data."""
     data: Dict[str, Any] = {"text/plain": lines_of(re.sub(" at 0x[0-9a-f]+", "", repr(value)))}
     if hasattr(value, "_repr_png_"):
         data["image/png"] = base64.b64encode(value._repr_png_()).decode()

@@ -43,20 +43,20 @@ class Torus(torus.Torus):
     """A torus that steps by rules of the package."""
 
     def step(self, rule: Any, grid: str = "EVEN", phase: int = 0) -> None:
-        """Does a step by a rule of one half."""
+        """Does a step by a rule of one half. The planes of the other half stay."""
         first = FIRST_PLANE[rule.half]
         self.planes[first : first + 2] = self.step_half(oracle_rule(rule), grid, phase)
 
 
 def replies_of(program: str, commands: Iterable[dict[str, Any]], side: int = 128) -> list[dict[str, Any]]:
-    """The replies of a private machine to commands."""
+    """The replies of a private machine to commands, read as JSON. `side` is its limit."""
     return [
         json.loads(reply) for reply in private(program, (compact(**command).decode() for command in commands), side)
     ]
 
 
 def digits(row: Iterable[int]) -> str:
-    """A row of bits as hexadecimal digits."""
+    """A row of bits as hexadecimal digits, column 0 the highest bit of the first one."""
     cells = "".join(str(int(bit)) for bit in row)
     return f"{int(cells, 2):0{len(cells) // 4}x}"
 

@@ -37,12 +37,12 @@ BLOCK = ": S CENTER CW + OPP + CCW + ; : NC CENTER 0= ; : NO OPP 0= ;"
 
 
 def cases(counts: str, most: int) -> str:
-    """The words of a case that is 1 at these counts."""
+    """The words 0 and 1 of a case over the counts 0 to `most`: 1 at the digits of `counts`."""
     return " ".join("1" if str(count) in counts else "0" for count in range(most + 1))
 
 
 def life(born: str, stays: str) -> str:
-    """The text of a rule that knows the eight neighbours by their number."""
+    """The text of a rule that knows the eight neighbours by their number. `born` and `stays` are digits."""
     return f"{AROUND} : R CENTER IF N {{ {cases(stays, 8)} }} ELSE N {{ {cases(born, 8)} }} THEN >PLN0 ;"
 
 
@@ -78,7 +78,7 @@ def counts_of(rule: str, seed: int, steps: int) -> tuple[int, ...]:
 
 
 def oracle_counts() -> dict[str, list[int]]:
-    """The counts of the tasks `FEW` by the oracle."""
+    """The counts of the tasks `FEW` by the oracle, for each `rule/seed`."""
     tasks = itertools.product(TEXTS, range(FEW_SEEDS))
     return {f"{rule}/{seed}": list(counts_of(rule, seed, FEW_STEPS)) for rule, seed in tasks}
 
@@ -90,13 +90,13 @@ def environment(program: str, first: str = "") -> dict[str, str]:
 
 
 def run(program: str, *words: str, first: str = "") -> subprocess.CompletedProcess[str]:
-    """Runs the script to its end."""
+    """Runs the script to its end, which may have any status. Returns that and what it wrote."""
     command, env = [sys.executable, SCRIPT, *words], environment(program, first)
     return subprocess.run(command, env=env, capture_output=True, text=True, timeout=PATIENCE, check=False)
 
 
 def counts_by(program: str, *words: str) -> dict[str, list[int]]:
-    """The counts that the script writes."""
+    """The counts that the script writes, for each `rule/seed`. Fails if its status is not 0."""
     with tempfile.TemporaryDirectory() as folder:
         path = Path(folder) / "counts"
         done = run(program, *words, "--output", str(path))

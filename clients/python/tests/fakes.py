@@ -30,7 +30,7 @@ class OracleMachine(Alone):
     """An oracle machine: it answers line by line."""
 
     def ask(self, **command: Any) -> Any:
-        """The reply to a command."""
+        """The reply to a command, read as JSON."""
         return json.loads(self.answer(compact(**command)))
 
     def load_line(self) -> bytes:
@@ -44,12 +44,12 @@ def load_of(reply: bytes) -> bytes:
 
 
 def compact(**fields: Any) -> bytes:
-    """A command as a line."""
+    """A command as a line, without LF."""
     return json.dumps(fields, separators=(",", ":")).encode()
 
 
 def north(name: str) -> bytes:
-    """The line of a rule that shifts."""
+    """The line of a rule of this name by which each cell becomes its north neighbour."""
     return compact(do="rule", name=name, half="A", hood="N/VONN", minor="&/CENTERS", text=": R NORTH >PLN0 ;")
 
 
