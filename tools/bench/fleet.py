@@ -175,7 +175,8 @@ def front(cam6: str, folder: Path) -> None:
 
 
 def spent_by(fleet: Fleet, play: Callable[[], int]) -> tuple[int, float, float]:
-    """Calls `play`. Returns what it counts, and the processor time of the front and of the edge proxies meanwhile."""
+    """Calls `play`. Returns what it counts, and the seconds of processor time of the front and of the edge proxies
+    meanwhile."""
     edges = fleet.edges.values()
     before = fleet.front.seconds(), sum(edge.seconds() for edge in edges)
     count = play()

@@ -22,12 +22,12 @@ LONGEST = f": A {' '.join(f'{name} DROP' for name in NAMES)} {'1 DROP ' * 20}; :
 
 
 def line_of(command: dict[str, Any]) -> bytes:
-    """The line of a command, as a load has to be written."""
+    """The line of a command, as a load has to be written: keys sorted, and LF at the end."""
     return json.dumps(command, separators=(",", ":"), sort_keys=True, ensure_ascii=False).encode() + b"\n"
 
 
 def load(side: int, rules: list[dict[str, str]], cycle: list[dict[str, Any]]) -> bytes:
-    """The line that loads a machine whose cells are blank."""
+    """The line, with LF, that loads a machine whose cells are blank. `rules` and `cycle` are as in a saved machine."""
     rows, colours = [["0" * (side // 4)] * side] * 4, list(range(16))
     machine = {
         "colours": colours,
@@ -62,7 +62,7 @@ def loads() -> dict[str, bytes]:
 
 def milliseconds(alone: subprocess.Popen[bytes], line: bytes, times: int) -> str:
     """Sends a line so many times. Returns the least and the median milliseconds until its reply, as two cells of a
-    table."""
+    table. Ends the script if it is refused."""
     assert alone.stdin and alone.stdout
     taken = []
     for _ in range(times):

@@ -49,7 +49,7 @@ class Host:
             raise SystemExit("%s: %r" % (line[:60], reply))
 
     def time(self, steps: int) -> float:
-        """The seconds in which each user's steps are done, asked at once."""
+        """Has each user do so many steps, all asked at once. Returns the seconds until the last reply."""
         began = time.monotonic()
         for peer, _ in self.peers:
             peer.sendall(b'{"do":"run","n":%d}\n' % steps)
@@ -70,7 +70,7 @@ class Host:
 
 
 def cells() -> Iterator[str]:
-    """Lines that set all rows of plane 0 at random."""
+    """Lines that set all 256 rows of plane 0 to random cells, always the same."""
     number = 7
     for row in range(0, 256):
         bits = 0

@@ -27,14 +27,15 @@ BACK = b'{"do":"back","n":1}\n'
 
 
 def rule_line(name: str, half: str, hood: str, minor: str, text: str) -> bytes:
-    """The line that defines a rule."""
+    """The line, with LF, that defines a rule."""
     return (
         f'{{"do":"rule","name":"{name}","half":"{half}","hood":"{hood}","minor":"{minor}","text":"{text}"}}\n'
     ).encode()
 
 
 def cycle_line(entries: list[tuple[str, str]]) -> bytes:
-    """The line that sets a cycle on the even grid."""
+    """The line, with LF, that sets a cycle on the even grid. An entry has a rule of half A and one of half B, or
+    `-`."""
     listed = ",".join(f'{{"a":"{a}","b":"{b}","grid":"EVEN","phase":0}}' for a, b in entries)
     return f'{{"do":"cycle","entries":[{listed}]}}\n'.encode()
 
@@ -48,8 +49,8 @@ LINES = ["CENTER", "CENTER'", "CW", "CCW", "OPP", "CW'", "CCW'", "OPP'", "HORZ",
 
 
 def repeated(number: int, start: str, unit: str, size: int) -> str:
-    """The text of a rule of some 4,096 words: the words of the start, and then a unit of so many words again and again. Each
-    number gives another text."""
+    """The text of a rule of some 4,096 words: the words of `start`, and then `unit`, which has `size` words, again and
+    again. Each number gives another text."""
     times = (4096 - len(start.split()) - 2) // size
     names = [f"UNIT{i}" for i in range(times.bit_length())]
     text = f": UNIT0 {unit} ;" + "".join(f" : {name} {below} {below} ;" for below, name in zip(names, names[1:]))
@@ -121,7 +122,7 @@ class Host:
         self.process.stderr.readline()
 
     def user(self, number: int) -> User:
-        """Connects a user to a seat."""
+        """Connects a user to a seat, counted from 1."""
         return User(self.port, number)
 
     def end(self) -> None:
@@ -209,6 +210,7 @@ def measure_bothered(program: str, count: int) -> None:
     is_over = threading.Event()
 
     def bother() -> None:
+        """Does steps as the other user until it is over."""
         while not is_over.is_set():
             other.ask(RUN)
 
@@ -244,7 +246,8 @@ class Hostile:
 
 
 def measure_beside_hostile(program: str, text_of: Callable[[int], str], hostile: int, *words: str) -> None:
-    """Prints the waits of a user beside so many hostile ones."""
+    """Prints the waits of a user beside so many hostile ones, with rules of `text_of`. `words` are the options of the
+    host. The name of the row is the docstring of `text_of` up to a colon."""
     host = Host(program, *words)
     user = host.user(1)
     prepare(user, parity_commands())
