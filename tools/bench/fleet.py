@@ -196,6 +196,7 @@ def round_trips(fleet: Fleet) -> None:
             times: list[float] = []
 
             def play(one: Peer = one, times: list[float] = times) -> int:
+                """Asks 5,000 lines, and notes the seconds of each. Returns how many times are noted."""
                 for _ in range(5000):
                     begun = time.perf_counter()
                     one.ask('{"do":"rules"}')
@@ -212,6 +213,7 @@ def connections(fleet: Fleet) -> None:
     for what, connect in WAYS.items():
 
         def play(connect: Connect = connect) -> int:
+            """Makes and closes 300 connections, and returns 300."""
             for _ in range(300):
                 with connect(fleet) as one:
                     one.ask('{"seat":99}')
