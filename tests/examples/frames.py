@@ -16,17 +16,17 @@ WINDOW = [place % SIDE for place in range(120, 136)]
 
 
 def in_plane(x: int, y: int) -> int:
-    """The colour of a cell of the first frame."""
+    """The colour of a cell of the first frame: 1 if it is set, otherwise 0."""
     return int((x, y) in CELLS)
 
 
 def in_colours(x: int, y: int) -> int:
-    """The colour of a cell of the second frame."""
+    """The colour of a cell of the second frame, 0 to 15."""
     return (3 * x + 5 * y + x * y // 64) % 16
 
 
 def replies() -> str:
-    """Replies of a machine: a plane, and then rows in colours."""
+    """Lines of replies for cam6_draw: a plane, then all rows in colours, and among them replies without a picture."""
     rows = [sum(in_plane(x, y) << SIDE - 1 - x for x in range(SIDE)) for y in range(SIDE)]
     spelled: list[dict[str, Any]] = [{"ok": "rule"}, {"ok": "cycle"}]
     spelled += [{"ok": "plane", "rows": [f"{row:0{SIDE // 4}x}" for row in rows]}]
@@ -38,14 +38,14 @@ def replies() -> str:
 
 
 def hue(colour: int) -> int:
-    """The terminal's number for a colour: the nearest one of its cube."""
+    """The terminal's number for one of the sixteen colours, 0 to 15: the nearest one of its cube."""
     lights = bytes.fromhex(PALETTE[colour])
     red, green, blue = (0 if light < 48 else 1 if light < 115 else (light - 35) // 40 for light in lights)
     return 16 + 36 * red + 6 * green + blue
 
 
 def terminal(colour: Callable[[int, int], int]) -> str:
-    """A frame on a terminal: two rows of cells are a line of characters."""
+    """The text that draws the cells of `WINDOW` on a terminal, two rows to a line. `colour` gets a column and a row."""
     lines = ""
     for upper, lower in zip(WINDOW[::2], WINDOW[1::2]):
         hues = [(hue(colour(x, upper)), hue(colour(x, lower))) for x in WINDOW]

@@ -32,7 +32,7 @@ class Plane(NamedTuple):
         return self.ground ^ (cell in self.cells)
 
     def rows(self, side: int) -> list[int]:
-        """The number of each row. Its highest bit is column 0."""
+        """Each row as a number of `side` bits, from row 0 on. Its highest bit is column 0."""
         rows = [self.ground * (2**side - 1)] * side
         for x, y in self.cells:
             rows[y] ^= 1 << side - 1 - x
@@ -48,34 +48,35 @@ class Torus(NamedTuple):
     phase: int = 0
 
     def cells(self, plane: int) -> Cells:
-        """The set cells of a plane whose ground is 0."""
+        """The set cells of a plane. Fails if the plane's ground is 1."""
         assert self.planes[plane].ground == 0
         return self.planes[plane].cells
 
     def moved(self, cells: Iterable[Cell], columns: int, rows: int) -> Cells:
-        """Cells, moved over the torus."""
+        """Cells, moved so many columns east and rows south round the torus."""
         return frozenset(((x + columns) % self.side, (y + rows) % self.side) for x, y in cells)
 
     def cells_at(self, cell: Cell, ways: Iterable[Cell]) -> list[Cell]:
-        """The cells that lie these ways from one."""
+        """The cells at `ways` from one, in their order. A way is columns to the east and rows to the south."""
         return [((cell[0] + i) % self.side, (cell[1] + j) % self.side) for i, j in ways]
 
     def counts(self, cells: Cells, ways: Iterable[Cell]) -> Counter[Cell]:
-        """How many of its neighbours are set, of each cell that has one."""
+        """For each cell, how many of `cells` have it at one of `ways` from them. Only counts above 0 are there."""
         return Counter(one for cell in cells for one in self.cells_at(cell, ways))
 
     def place(self, cell: Cell) -> int:
-        """The place of a cell in its block, clockwise from the upper left one."""
+        """The place of a cell in its block, 0 to 3: clockwise from the upper left one."""
         return PLACES.index(((cell[0] + self.is_odd) % 2, (cell[1] + self.is_odd) % 2))
 
     def blocks(self, cells: Cells) -> list[list[Cell]]:
-        """The blocks that have one of these cells, each as its cells, clockwise from the upper left one."""
+        """The blocks that have one of these cells, in any order, each as its cells, clockwise from the upper left
+        one."""
         odd = self.is_odd
         corners = {(x - (x + odd) % 2, y - (y + odd) % 2) for x, y in cells}
         return [self.cells_at(corner, PLACES) for corner in {(x % self.side, y % self.side) for x, y in corners}]
 
     def shown(self, name: str, own: int) -> Plane:
-        """What the cells see under a name, in the half whose first plane this is."""
+        """What all cells see under a name, as a plane. `own` is the first plane of the rule's half, 0 or 2."""
         upper, word = int(name.endswith("'")), name.strip("&'")
         if word == "PHASE":
             return Plane(self.phase >> upper & 1)
@@ -95,12 +96,12 @@ class Torus(NamedTuple):
 
 @cache
 def stripes(side: int, axis: int, is_odd: int) -> Cells:
-    """The cells of the right columns of all blocks, or of the lower rows."""
+    """The cells of the right columns of all blocks (`axis` 0), or of the lower rows (1), on the even or odd grid."""
     return frozenset(cell for cell in product(range(side), range(side)) if (cell[axis] + is_odd) % 2)
 
 
 def states_of(planes: Sequence[Plane], cells: Iterable[Cell]) -> Iterable[int]:
-    """The states of cells, from 0 to 15."""
+    """The states of cells, from 0 to 15, in the order of the cells. The first plane has the lowest bit."""
     states = dict.fromkeys(cells, 0)
     for bit, (ground, others) in enumerate(planes):
         for cell in states:
@@ -110,7 +111,7 @@ def states_of(planes: Sequence[Plane], cells: Iterable[Cell]) -> Iterable[int]:
 
 @lru_cache(64)
 def states_counted(side: int, *planes: Plane) -> Counter[int]:
-    """How many cells have each state."""
+    """How many cells of the torus have each state. The first plane has the lowest bit."""
     others = frozenset[Cell]().union(*(plane.cells for plane in planes))
     counted = Counter(states_of(planes, others))
     counted[sum(plane.ground << bit for bit, plane in enumerate(planes))] += side**2 - len(others)
@@ -124,15 +125,16 @@ Becomes = Callable[[frozenset[int], int], Iterable[int]]
 
 
 def of_cells(step: Callable[..., Iterable[Cell]], *seen: int) -> Rule:
-    """A rule that writes the first one of the planes that it sees."""
+    """A rule that writes the first plane of `seen`. `step` gets the torus and the set cells of each of them."""
     return lambda torus: {seen[0]: Plane(0, frozenset(step(torus, *map(torus.cells, seen))))}
 
 
 def of_blocks(becomes: Becomes) -> Rule:
-    """A rule of blocks in plane 0."""
+    """A rule of blocks in plane 0. `becomes` gives the places that a step sets, by those that are set and the phase."""
     new_places = cache(lambda places, phase: frozenset(becomes(places, phase)))
 
     def step(torus: Torus) -> dict[int, Plane]:
+        """Plane 0 after a step."""
         old, phase, cells = torus.planes[0], torus.phase, set[Cell]()
         ground = len(new_places(frozenset(range(4) if old.ground else ()), phase)) // 4
         for block in torus.blocks(old.cells):
@@ -144,7 +146,7 @@ def of_blocks(becomes: Becomes) -> Rule:
 
 
 def of_names(text: str) -> Rule:
-    """A rule that writes what names show, each to a plane."""
+    """The rule of a text like `: R NORTH >PLN0 ;`: planes become what names show. Fails for other texts."""
     written = [(int(plane), name) for name, plane in re.findall(r"(\S+) >PLN([0-3])", text)]
     assert text == f": R {' '.join(f'{name} >PLN{plane}' for plane, name in written)} ;"
     return lambda torus: {plane: torus.shown(name, plane & 2) for plane, name in written}
@@ -162,7 +164,7 @@ class PlainMachine:
         self.side, self.planes = 256, [Plane()] * 4
 
     def step(self) -> None:
-        """Does a step of the entry at the position."""
+        """Does a step by the entry at the position, keeps the planes before it, and moves the position on."""
         entry = self.entries[self.position]
         torus, planes = Torus(self.side, self.planes, entry["grid"] == "ODD", entry["phase"]), [*self.planes]
         for name in {entry["a"], entry["b"]} - {"-"}:
@@ -173,7 +175,7 @@ class PlainMachine:
         self.position = (self.position + 1) % len(self.entries)
 
     def answer(self, line: bytes) -> bytes:
-        """Does a command, and returns its reply."""
+        """Does a command, which has to be well formed, and returns its reply without an LF."""
         command = json.loads(line)
         word = command.pop("do")
         reply = getattr(self, f"do_{word}")(**command)
@@ -182,12 +184,12 @@ class PlainMachine:
         ).encode()
 
     def do_side(self, side: int) -> dict[str, Any]:
-        """Makes a blank torus, and goes to the first entry."""
+        """Makes a blank torus of this side, and goes to the first entry."""
         self.side, self.planes, self.position = side, [Plane()] * 4, 0
         return {}
 
     def do_rule(self, name: str, half: str, hood: str, minor: str, text: str) -> dict[str, Any]:
-        """A known rule, one that writes what names show, or one that stops if a name shows 1."""
+        """Keeps a known rule, or one that writes what names show. Fault 40 for a text that stops if a name shows 1."""
         if stops := re.fullmatch(r": R (\S+) IF DROP THEN ;", text):
             return {"address": 1 << lines_of(hood, minor).index(stops[1]), "fault": 40}
         self.rules[name] = self.known[name] if name in self.known else of_names(text)
@@ -199,7 +201,7 @@ class PlainMachine:
         return {}
 
     def do_set(self, plane: int, row: int, bits: str) -> dict[str, Any]:
-        """Sets a row."""
+        """Sets a row to these hexadecimal digits. Fails if the plane's ground is 1."""
         kept = frozenset(cell for cell in Torus(self.side, self.planes).cells(plane) if cell[1] != row)
         cells = enumerate(f"{int(bits, 16):0{self.side}b}")
         self.planes = [*self.planes]
@@ -207,33 +209,33 @@ class PlainMachine:
         return {}
 
     def do_run(self, n: int) -> dict[str, Any]:
-        """Does steps."""
+        """Does n steps, and returns the position after them."""
         for _ in range(n):
             self.step()
         return {"position": self.position}
 
     def do_back(self, n: int) -> dict[str, Any]:
-        """Goes back to the planes before so many steps."""
+        """Goes back to the planes before n steps. Raises IndexError if fewer are kept."""
         for _ in range(n):
             self.planes = self.past.pop()
         self.position = (self.position - n) % len(self.entries)
         return {"position": self.position}
 
     def do_plane(self, plane: int) -> dict[str, Any]:
-        """Shows all rows of a plane."""
+        """Returns all rows of a plane, as hexadecimal digits."""
         return {"rows": [f"{row:0{self.side // 4}x}" for row in self.planes[plane].rows(self.side)]}
 
     def do_map(self, colours: list[int]) -> dict[str, Any]:
-        """Keeps the colours of the states."""
+        """Keeps the colours of the sixteen states."""
         self.colours = colours
         return {}
 
     def do_colours(self, row: int) -> dict[str, Any]:
-        """Shows the colours of a row."""
+        """Returns the colours of a row's cells, a hexadecimal digit each."""
         states = states_of(self.planes, ((x, row) for x in range(self.side)))
         return {"colours": "".join(f"{self.colours[state]:x}" for state in states)}
 
     def do_count(self, mask: int) -> dict[str, Any]:
-        """Counts the cells with one of the states of a mask."""
+        """Counts the cells with a state whose bit is set in the mask."""
         counted = states_counted(self.side, *self.planes)
         return {"count": sum(number for state, number in counted.items() if mask >> state & 1)}

@@ -16,23 +16,23 @@ def blank_rows(side: int) -> list[str]:
 
 
 def blank(number: int, **other: Any) -> Command:
-    """A blank machine of this side as it is saved, but for what is otherwise."""
+    """A blank machine of this side as version 2 saves it, but with the members of `other`."""
     machine = {"colours": COLOURS, "cycle": [], "planes": [blank_rows(number)] * 4, "position": 0, "rules": []}
     return machine | {"side": number, "version": 2} | other
 
 
 def first_version(machine: Command) -> Command:
-    """A machine as the first version saves it."""
+    """A saved machine as the first version saves it: without its side, whatever that is."""
     return {key: value for key, value in machine.items() if key != "side"} | {"version": 1}
 
 
 def load(machine: Any) -> Command:
-    """The command that loads a machine."""
+    """The command that loads a machine, valid or not."""
     return do("load", machine=machine)
 
 
 def entry(a: str = "-", b: str = "-", grid: str = "EVEN", phase: int = 0) -> Command:
-    """An entry of a cycle."""
+    """An entry of a cycle: the rules of halves A and B by name (`-` is none), the grid and the phase."""
     return {"a": a, "b": b, "grid": grid, "phase": phase}
 
 

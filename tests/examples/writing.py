@@ -19,7 +19,7 @@ BLANK_ROWS = re.compile(r'("(?:0{32}|0{64}|0{128})",)\1{3,}')
 
 
 def short_digits(digits: str) -> str:
-    """A row's digits in their shortest spelling. A `*` may stand for zeros."""
+    """A row's digits in their shortest spelling: `«32*f»` if all are the same. Otherwise a `*` may stand for zeros."""
     if len(set(digits)) == 1:
         return f"«{len(digits)}*{digits[0]}»"
     first = digits.rstrip("0")
@@ -36,8 +36,8 @@ def mark_match(found: re.Match[str]) -> str:
 
 
 def with_marks(text: str) -> str:
-    """A text as an example spells it: repeated pieces, blanks at the ends and bytes that are not printable stand in
-    marks."""
+    """A text as an example spells it: marks for repeated pieces, blanks at the ends and bytes that are not
+    printable."""
     spelled, at = "", 0
     for found in BLANK_ROWS.finditer(text):
         spelled += REPEATED_OR_UNSEEN.sub(mark_match, text[at : found.start()])
@@ -54,7 +54,7 @@ def common_row(rows: list[str]) -> str:
 
 
 def lines_of_rows(rows: list[str]) -> Iterator[str]:
-    """The rows of a plane, by their digits: first those of most even rows and of most odd ones."""
+    """The `=` lines of a plane: the rows of most even and most odd ones, unless blank, then each that differs."""
     common = common_row(rows[::2]), common_row(rows[1::2])
     for word, digits in zip(("even", "odd"), common):
         if digits.strip("0"):
@@ -71,7 +71,7 @@ class PlacedExample(Example):
         super().__init__(path)
 
     def read(self, mark: str, rest: str) -> None:
-        """Reads a line by its mark."""
+        """Reads the next line of the file, which comes as its mark and the rest."""
         self.at += 1
         super().read(mark, rest)
 
@@ -81,14 +81,14 @@ class PlacedExample(Example):
         self.wanted_at = self.at
 
     def want(self, text: str) -> None:
-        """Adds wanted lines, and notes where they stand."""
+        """Adds lines to what the last part wants, and notes where they stand."""
         before = self.last_part().wanted.count(b"\n")
         super().want(text)
         self.places += [self.wanted_at] * (self.last_part().wanted.count(b"\n") - before)
 
 
 def answered(path: Path) -> str:
-    """The text of an example, with the oracle's replies in place of those that are otherwise."""
+    """The text of an example's file, with the oracle's replies in place of those that differ from it."""
     assert is_known(path), f"{path}: the oracle has no answers to it"
     example, lines = PlacedExample(path), path.read_text(encoding="utf-8").split("\n")
     wanted = [reply for part in example.parts for reply in part.wanted.decode().splitlines()]
@@ -104,7 +104,7 @@ def answered(path: Path) -> str:
 
 
 def end_of(lines: list[str], at: int) -> int:
-    """The line after one, and after the rows that it begins."""
+    """The index of the first line after line `at` and after the rows that it begins."""
     end = at + 1
     while end < len(lines) and lines[end][:2] in ("= ", "@ ", "| "):
         end += 1
@@ -112,7 +112,7 @@ def end_of(lines: list[str], at: int) -> int:
 
 
 def with_replies(line: str, replies: list[str]) -> list[str]:
-    """A line of a file with other replies: a plane by its rows."""
+    """A line of a file with other replies, as lines: a plane has more of them, its rows."""
     sent, arrow, _ = line.rpartition(" => ")
     assert arrow or line.startswith("< "), f"this line has no reply of its own: {line}"
     if line != "< plane" or '"rows"' not in replies[0]:

@@ -16,7 +16,7 @@ from oracle.rules import bit_of_block, rule_of
 
 
 def readings_answer(line: bytes) -> bytes:
-    """The plainest spelling of the command that a line is, or its fault."""
+    """The command of a line in its plainest spelling, with the digits of `bits` in lower case; or the line's fault."""
     command = read_line(line, is_command)
     if isinstance(command, int):
         return plain({"fault": command})
@@ -24,7 +24,7 @@ def readings_answer(line: bytes) -> bytes:
 
 
 def text_answer(text: str, half: str, hood: str, minor: str) -> bytes:
-    """A text's fault, or the reply that it is a rule."""
+    """The reply that a text reads as a rule, or its fault and the token. The words aren't executed."""
     try:
         read_text(text, half, hood, minor)
     except TextFault as fault:
@@ -33,19 +33,20 @@ def text_answer(text: str, half: str, hood: str, minor: str) -> bytes:
 
 
 def table_text(entries: Iterable[int]) -> bytes:
-    """The entries of a table, 64 a line."""
+    """The 4,096 entries of a table as digits, 64 a line, without an LF at the end."""
     digits = "".join(map(str, entries))
     return "\n".join(digits[first : first + 64] for first in range(0, 4096, 64)).encode()
 
 
 def table_answer(text: str, half: str, hood: str, minor: str) -> bytes:
-    """The entries of a rule's table at all addresses, or the fault of the rule."""
+    """The entries of a rule's table at all addresses, as `table_text` has them; or the reply with the rule's fault."""
     rule = rule_of(half, hood, minor, text)
     return plain(rule) if isinstance(rule, dict) else table_text(map(rule.at, range(4096)))
 
 
 def inverse_answer(text: str, *words: str) -> bytes:
-    """The table that undoes a rule's, or twice, the one that undoes that; or why there is none."""
+    """The table that undoes a rule's (half, hood, minor), or after `twice` the one that undoes that; or why there is
+    none."""
     *twice, half, hood, minor = words
     rule = rule_of(half, hood, minor, text)
     if isinstance(rule, dict):
@@ -63,7 +64,7 @@ def inverse_answer(text: str, *words: str) -> bytes:
 
 
 def part_answers(part: Part) -> list[bytes]:
-    """What comes back for a part's lines."""
+    """What the oracle answers to each line of a part, in order, without an LF at the end."""
     word, *rest = part.way.split()
     if word == "session":
         return answers(lines_of(part.bytes_sent()), limit_of(part.way))
@@ -76,6 +77,6 @@ def part_answers(part: Part) -> list[bytes]:
 
 
 def is_known(path: Any) -> bool:
-    """Whether the oracle knows the ways of an example."""
+    """Whether the oracle can answer all parts of the example in this file."""
     ways = {part.way.split()[0] for part in Example(path).parts}
     return ways <= {"session", "events", "readings", "texts", "tables", "inverses"}

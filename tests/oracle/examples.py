@@ -28,7 +28,7 @@ class Unplayable(ValueError):
 
 
 def piece(text: str) -> bytes:
-    """The bytes of a piece: of a text, or of hexadecimal digits after `x`."""
+    """The UTF-8 of a text, or the bytes of hexadecimal digits after `x`. Raises Unplayable if the digits are wrong."""
     if not text.startswith("x "):
         return text.encode()
     if not re.fullmatch("x( [0-9A-F]{2})+", text):
@@ -37,7 +37,7 @@ def piece(text: str) -> bytes:
 
 
 def bytes_of_mark(mark: str, named: dict[str, bytes]) -> bytes:
-    """The bytes that a mark stands for."""
+    """The bytes of a mark without its « »: `n*piece`, a name, or `x` and digits. Raises Unplayable for others."""
     if times := re.fullmatch(r"([0-9]+)\*(.*)", mark, re.DOTALL):
         return int(times[1]) * piece(times[2])
     if mark in named:
@@ -48,7 +48,7 @@ def bytes_of_mark(mark: str, named: dict[str, bytes]) -> bytes:
 
 
 def written_out(text: str, named: dict[str, bytes]) -> bytes:
-    """The bytes of a text whose marks are replaced by what they stand for."""
+    """The bytes of a text whose marks are written out. Raises Unplayable if a mark stands for nothing."""
     whole, *pieces = text.split("«")
     written = whole.encode()
     for part in pieces:
@@ -68,14 +68,14 @@ class Rows:
         self.column = self.next_row = 0
 
     def put(self, y: int, digits: str) -> None:
-        """Gives a row these digits."""
+        """Gives row `y` these digits, which have to be all of the row's. Raises Unplayable if there is no such row."""
         if y >= self.side:
             raise Unplayable(f"there is no row {y}")
         self.digits[y] = digits
         self.named.add(y)
 
     def read(self, mark: str, rest: str) -> None:
-        """Reads a line that names rows."""
+        """Reads a line that gives digits, the corner of a picture, or a row of it. Raises Unplayable if it is wrong."""
         wanted = {"=": r"(even|odd|[0-9]+) ([0-9a-f]*\*?[0-9a-f]*)", "@": "([0-9]+) ([0-9]+)", "|": "([#.]*)()"}[mark]
         found = re.fullmatch(wanted, rest)
         if not found:
@@ -88,7 +88,8 @@ class Rows:
             self.put_cells(found[1])
 
     def put_digits(self, row: str, digits: str) -> None:
-        """Gives one row, or every other one, its digits."""
+        """Gives a row, or all `even` or `odd` ones, digits. A `*` stands for the missing zeros. May raise
+        Unplayable."""
         first, star, last = digits.partition("*")
         left_out = self.side // 4 - len(first) - len(last)
         if left_out < 0 or left_out > 0 and not star:
@@ -98,7 +99,7 @@ class Rows:
             self.put(y, first + "0" * left_out + last)
 
     def put_cells(self, cells: str) -> None:
-        """Sets cells of the next row, as a picture has them."""
+        """Sets the cells of the next row that are `#`, from the picture's column on, round the torus. Others stay."""
         y = self.next_row % self.side
         bits = int(self.digits[y], 16)
         for i, cell in enumerate(cells):
@@ -140,7 +141,7 @@ class Example:
             raise Unplayable(f"{self.name}: no line is wanted")
 
     def wrong_line(self) -> int:
-        """The line that comes back otherwise, counted from 1, or 0 if the file isn't wrong on purpose."""
+        """The line of all wanted ones that is wrong on purpose, from 1, or 0 if the file isn't wrong."""
         if not self.name.startswith("wrong_"):
             return 0
         found = re.match(r"Wrong on purpose: .*?\bline ([1-9][0-9]*)\b", self.head)
@@ -149,21 +150,21 @@ class Example:
         return int(found[1])
 
     def last_part(self) -> Part:
-        """The last part. Lines before the first one are a session."""
+        """The last part. If there is none yet, begins a session."""
         if not self.parts:
             self.parts.append(Part("session"))
         return self.parts[-1]
 
     def send(self, text: str, end: bytes = b"\n") -> None:
-        """Adds a line to what the last part sends."""
+        """Writes out the marks of a line, and adds it to what the last part sends, with `end` after it."""
         self.last_part().sent.append((written_out(text, self.named), end))
 
     def want(self, text: str) -> None:
-        """Adds a line to what the last part wants."""
+        """Writes out the marks of a line, and adds it with an LF to what the last part wants."""
         self.last_part().wanted += written_out(text, self.named) + b"\n"
 
     def end_rows(self) -> None:
-        """Ends the rows that were begun: they are wanted, or sent."""
+        """Ends the rows that were begun, if any: they are wanted as a plane, or each named one is sent by a `set`."""
         rows, self.rows = self.rows, None
         if rows and rows.plane is None:
             self.want(plain({"ok": "plane", "rows": rows.digits}).decode())
@@ -173,7 +174,7 @@ class Example:
                 self.want('{"ok":"set"}')
 
     def read(self, mark: str, rest: str) -> None:
-        """Reads a line of the file, as its mark says."""
+        """Reads a line of the file, as its mark says. Raises Unplayable if it is wrong."""
         if mark in ("=", "@", "|"):
             if not self.rows:
                 raise Unplayable("no rows are begun")
@@ -190,14 +191,14 @@ class Example:
             raise Unplayable(f"there is no mark {mark}")
 
     def name_text(self, rest: str) -> None:
-        """Keeps a text under a name, for marks in later lines."""
+        """Keeps a text under a name, for marks in later lines. Raises Unplayable if the name is taken."""
         name, _, text = rest.partition(" ")
         if name in self.named:
             raise Unplayable(f"two texts are named {name}")
         self.named[name] = written_out(text, self.named)
 
     def set_side(self, side: str) -> None:
-        """Sets how long rows are from here on."""
+        """Sets the side of the rows from here on. Raises Unplayable unless it is 128, 256 or 512."""
         if side not in map(str, SIDES):
             raise Unplayable(f"no side: {side}")
         self.side = int(side)
@@ -222,7 +223,7 @@ class Example:
 
 
 def limit_of(way: str) -> int:
-    """The limit of a session, by its way."""
+    """The largest side of a session, by its way: 256 if it has none. Raises Unplayable if this is no session's way."""
     found = re.fullmatch("session(?: within (128|256|512))?", way)
     if not found:
         raise Unplayable(f"no session: {way}")
@@ -230,7 +231,7 @@ def limit_of(way: str) -> int:
 
 
 def sizes_of(way: str) -> tuple[int, int, int, int]:
-    """The users, boards and cached tables of events, and the limit of all users, by their way."""
+    """The users, boards, cached tables and largest side of events, by their way. Raises Unplayable for another way."""
     found = re.fullmatch("events ([0-9]+) ([0-9]+) ([0-9]+)(?: within (128|256|512))?", way)
     if not found:
         raise Unplayable(f"no events: {way}")
@@ -239,8 +240,8 @@ def sizes_of(way: str) -> tuple[int, int, int, int]:
 
 
 def outcome_of(answer: Callable[[bytes], bytes], line: bytes) -> bytes:
-    """The outcome of a line of events, or of the last one of those for which a short form stands. `answer` has that of
-    one line."""
+    """The outcome of a line of events, or of the last event for which a short form stands (`unread` if that is wrong).
+    `answer` plays one line."""
     if bands := re.fullmatch(rb"bands %s %s" % (NUMBER, NUMBER), line):
         times = int(bands[2])
         if times == 0 or max(int(bands[1]), times) >= TOO_LARGE:
@@ -252,8 +253,8 @@ def outcome_of(answer: Callable[[bytes], bytes], line: bytes) -> bytes:
 
 
 def whole_reply(answer: Callable[[bytes], bytes], user: bytes, command: bytes) -> bytes:
-    """The outcome of a command's collect, after its ask, a lease of the first board that takes it, and its bands. Or
-    that of an ask that is refused."""
+    """Asks for a command, leases the first board that takes it, does its bands, and collects. Returns the outcome of
+    the collect, or of an ask that is refused."""
     asked = answer(b'{"event":"ask","user":%s,"command":%s}' % (user, command))
     left = re.match(rb'{"left":([0-9]+),', asked)
     if not left:

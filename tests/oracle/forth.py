@@ -73,7 +73,7 @@ class Definition(NamedTuple):
 
 
 def seen_by(items: list[Item]) -> Iterator[str]:
-    """The neighbours that items may look at."""
+    """The names of the neighbours that items may look at, definitions included. A name may come more than once."""
     for kind, content in items:
         if kind == "neighbour":
             yield content
@@ -96,16 +96,16 @@ class Reader:
         self.definitions: dict[str, Definition] = {}
 
     def fault(self, number: int) -> NoReturn:
-        """Raises a fault of this number at the last token."""
+        """Raises a TextFault with this number and the number of the last token."""
         raise TextFault(number, self.at)
 
     def token(self) -> str | None:
-        """The next token. After the last one there is None, with a number of its own."""
+        """Takes the next token. After the last one there is None, with a number of its own."""
         self.at = min(self.at, len(self.tokens)) + 1
         return self.tokens[self.at - 1] if self.at <= len(self.tokens) else None
 
     def word(self) -> str | None:
-        """Reads the next token that is in no comment, or None at the end."""
+        """Takes the next token that is in no comment, or None at the end. Raises fault 22 if a comment has no end."""
         token = self.token()
         while token == "(":
             token = self.token()
@@ -117,7 +117,7 @@ class Reader:
         return token
 
     def read(self) -> Definition:
-        """The rule, which is the last definition."""
+        """Reads the whole text, and returns its last definition, the rule. Raises TextFault at the first fault."""
         if self.is_long:
             self.fault(28)
         last = None
@@ -130,7 +130,7 @@ class Reader:
         return last or self.fault(27)
 
     def definition(self) -> Definition:
-        """Reads a definition: a name and a body."""
+        """Reads a name and a body, after the `:`. Keeps the definition, and returns it."""
         name = self.token() or self.fault(22)
         if name in RESERVED or LITERAL.fullmatch(name) or name in self.definitions:
             self.fault(21)
@@ -140,7 +140,7 @@ class Reader:
         return self.definitions[name]
 
     def body(self) -> list[Item]:
-        """Reads the items up to a `;`. Of each IF that is open there is a list of its bodies."""
+        """Reads the items up to a `;`, and returns them. `opened` has a list of bodies for each IF that is open."""
         whole: list[Item] = []
         opened: list[list[list[Item]]] = []
         while (token := self.word()) != ";":
@@ -168,7 +168,7 @@ class Reader:
         return self.fault(22) if opened else whole
 
     def case(self) -> list[Item]:
-        """Reads the words up to a `}`."""
+        """Reads the words up to a `}`, after the `{`, and returns an item for each."""
         items = []
         while (token := self.word()) != "}":
             if token is None or token in SIGNS:
@@ -177,7 +177,7 @@ class Reader:
         return items
 
     def item(self, token: str, more: int) -> Item:
-        """A word by itself, which takes this much more of the size than it has."""
+        """The item of a word. Adds its size and `more` to the size of the definition that is read."""
         size, item = 1, self.item_of(token)
         if item[0] == "name":
             size = max(1, item[1].size)
@@ -185,7 +185,7 @@ class Reader:
         return item
 
     def item_of(self, token: str) -> Item:
-        """The item that a token stands for. Raises a fault if there is none."""
+        """The item that a token stands for. Raises TextFault if there is none, or if it may not be used here."""
         if LITERAL.fullmatch(token):
             digits = token.lstrip("0") or "0"
             if len(digits) > 5 or int(digits) > LARGEST:
@@ -203,14 +203,14 @@ class Reader:
         self.fault(20)
 
     def grow(self, size: int) -> None:
-        """Takes so much more of the size."""
+        """Adds to the size of the definition that is read. Raises fault 23 if it is too large then."""
         self.size += size
         if self.size > MOST_SIZE:
             self.fault(23)
 
 
 def read_text(text: str, half: str, hood: str, minor: str) -> Definition:
-    """The definition that is the rule. A text that is none raises its fault."""
+    """The last definition of a text, which is the rule. Raises TextFault at the first fault."""
     return Reader(text, half, hood, minor).read()
 
 
@@ -222,12 +222,12 @@ class Cell:
         self.written = [seen["CENTER"], seen["CENTER'"]]
 
     def do(self, items: list[Item]) -> None:
-        """Executes items, one after another."""
+        """Executes items, one after another. Raises RuleFault if one stops."""
         for kind, content in items:
             getattr(self, f"do_{kind}")(content)
 
     def pop(self, count: int) -> list[int]:
-        """Removes the upper values of the stack, and returns them."""
+        """Removes the upper `count` values of the stack, and returns them, the top last. May raise RuleFault 40."""
         first = len(self.stack) - count
         if first < 0:
             raise RuleFault(40)
@@ -236,7 +236,7 @@ class Cell:
         return values
 
     def push(self, values: list[int]) -> None:
-        """Pushes values on the stack. Raises a fault if it is full."""
+        """Pushes values on the stack, the last one on top. Raises RuleFault 41 if there are too many then."""
         self.stack += values
         if len(self.stack) > MOST_VALUES:
             raise RuleFault(41)
@@ -250,7 +250,7 @@ class Cell:
         self.push([self.seen[name]])
 
     def do_word(self, word: tuple[int, Leaves]) -> None:
-        """Does a word of the stack."""
+        """Pops what a word takes, and pushes what it leaves. Raises RuleFault 43 if that is out of range."""
         count, leaves = word
         values = leaves(*self.pop(count))
         if any(not 0 <= value <= LARGEST for value in values):
@@ -258,7 +258,7 @@ class Cell:
         self.push(values)
 
     def do_output(self, bits: list[tuple[int, int]]) -> None:
-        """Pops a value, and writes bits of it."""
+        """Pops a value, and writes bits of it: for each pair, this plane of the half (0 or 1) gets this bit."""
         [value] = self.pop(1)
         for plane, bit in bits:
             self.written[plane] = value >> bit & 1
@@ -268,7 +268,7 @@ class Cell:
         self.do(definition.body)
 
     def do_if(self, bodies: list[list[Item]]) -> None:
-        """Does the first body if the value isn't 0, or else the second one, if there is one."""
+        """Pops a value. Does the first body if it isn't 0, or else the second one, if there is one."""
         [value] = self.pop(1)
         if value != 0:
             self.do(bodies[0])
@@ -276,7 +276,7 @@ class Cell:
             self.do(bodies[1])
 
     def do_case(self, items: list[Item]) -> None:
-        """Does one of the words, by the value."""
+        """Pops a value, and does the word with this index, from 0. Raises RuleFault 42 if there is none."""
         [index] = self.pop(1)
         if index >= len(items):
             raise RuleFault(42)
@@ -284,7 +284,7 @@ class Cell:
 
 
 def bits_of(definition: Definition, seen: dict[str, int]) -> tuple[int, int]:
-    """The new lower and upper bit of a cell that sees this, by names. Words that stop raise their fault."""
+    """The new lower and upper bit of a cell that sees this, by names. Raises RuleFault if the words stop."""
     cell = Cell(seen)
     cell.do(definition.body)
     lower, upper = cell.written

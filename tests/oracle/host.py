@@ -39,7 +39,7 @@ class User:
         self.is_back = False
 
     def ask(self, command: dict[str, Any]) -> None:
-        """Takes a command. Its reply is given when it is finished. Its steps have so many bands each."""
+        """Takes a command, and is queued with its bands, 16 rows of a step each, or finished if it has no steps."""
         self.reply = self.machine.do(command)
         self.bands, self.is_back = self.machine.torus.side // BAND, command["do"] == "back"
         self.left = self.home = command["n"] * self.bands if "position" in self.reply else 0
@@ -48,7 +48,7 @@ class User:
             self.machine.settle()
 
     def tables(self) -> list[object]:
-        """The keys of the tables that the command needs, in their order."""
+        """The keys of the tables that the command needs, in the order of their uses. A key may come more than once."""
         return [(self.machine.rules[name].key, self.is_back) for _, _, name in self.machine.uses()]
 
 
@@ -69,11 +69,11 @@ class Host:
         return [board for board, has in self.boards.items() if has in held]
 
     def user_on(self, board: int) -> User:
-        """The user that a board is loaded with."""
+        """The user that a board is loaded with. It must not be idle or dead."""
         return self.users[int(self.boards[board])]
 
     def is_refused(self, number: int, user: int | None, board: int | None) -> bool:
-        """Whether the condition of a refusal holds. The user or board is None if the event names none."""
+        """Whether the condition of this refusal holds. The user or board is None if the event names none."""
         if number == 101:
             return user not in [None, *self.users] or board not in [None, *self.boards]
         conditions: dict[int, Callable[[], bool]] = {
@@ -89,7 +89,7 @@ class Host:
         return conditions[number]()
 
     def apply(self, event: dict[str, Any]) -> dict[str, Any]:
-        """The outcome of an event, which happens unless it is refused."""
+        """Does an event, and returns its outcome; or `{"refused": n}` for the first reason, and nothing is done."""
         word, named = event["event"], {key: value for key, value in event.items() if key != "event"}
         for number in REFUSALS[word]:
             if self.is_refused(number, named.get("user"), named.get("board")):
@@ -97,19 +97,19 @@ class Host:
         return sorted_by_keys({"ok": word} | getattr(self, f"on_{word}")(**named))
 
     def on_ask(self, user: int, command: dict[str, Any]) -> dict[str, Any]:
-        """A user asks for a command."""
+        """A user asks for a command. `left` is its number of bands, 0 if it is finished at once."""
         self.users[user].ask(command)
         return {"left": self.users[user].left}
 
     def on_lease(self, user: int, board: int) -> dict[str, Any]:
-        """A board takes a command, whose tables are the last that were used."""
+        """A board takes a user's command. Its tables come first in the cache, and the last ones may leave."""
         for key in self.users[user].tables():
             self.keys = [key, *(kept for kept in self.keys if kept != key)][: self.capacity]
         self.users[user].status, self.boards[board] = "out", user
         return {"left": self.users[user].left}
 
     def on_band(self, board: int) -> dict[str, Any]:
-        """A board does a band."""
+        """A board does a band. After the last one the command is finished and done, and the board is idle."""
         user = self.user_on(board)
         user.left -= 1
         if user.left == 0:
@@ -118,7 +118,7 @@ class Host:
         return {"left": user.left}
 
     def on_preempt(self, board: int) -> dict[str, Any]:
-        """A command is taken off a board. What it has done goes home at the end of a step alone."""
+        """Takes a command off a board, and queues it. What it has done goes home at the end of a step alone."""
         user = self.user_on(board)
         if user.left % user.bands == 0:
             user.home = user.left
@@ -126,7 +126,7 @@ class Host:
         return {"left": user.left}
 
     def on_fail(self, board: int) -> dict[str, Any]:
-        """A board fails. What isn't at home is lost."""
+        """A board dies. Its command, if any, is queued again without the bands that weren't at home."""
         held, self.boards[board] = self.boards[board], DEAD
         if held == IDLE:
             return {}
@@ -135,7 +135,7 @@ class Host:
         return {"left": user.left}
 
     def on_repair(self, board: int) -> dict[str, Any]:
-        """A board is repaired."""
+        """A dead board becomes idle."""
         self.boards[board] = IDLE
         return {}
 
@@ -145,7 +145,7 @@ class Host:
         return {}
 
     def on_collect(self, user: int) -> dict[str, Any]:
-        """A user collects a reply."""
+        """A user gets the reply of their command, and rests."""
         self.users[user].status = "resting"
         return {"reply": self.users[user].reply}
 
@@ -157,6 +157,6 @@ class Replay:
         self.host = Host(users, boards, capacity, limit)
 
     def answer(self, line: bytes) -> bytes:
-        """Does an event, and returns its outcome."""
+        """Does the event of a line, and returns its outcome or the line's fault, without an LF."""
         event = read_line(line, is_event)
         return plain({"fault": event} if isinstance(event, int) else self.host.apply(event))

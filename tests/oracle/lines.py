@@ -34,7 +34,7 @@ class Unclear(Exception):
 
 
 def json_of(line: bytes) -> Any:
-    """The value that a line is. Numbers that no line may have are floats."""
+    """The JSON value of a line. Numbers that no line may have are floats. Raises ValueError if there is none."""
     text = line.decode()
     marks = [mark for mark in re.findall(r'"(?:[^"\\]|\\.)*"?|[][{}]', text, re.DOTALL) if mark in "[]{}"]
     if max(accumulate(1 if mark in "[{" else -1 for mark in marks), default=0) > MOST_NESTED:
@@ -44,13 +44,13 @@ def json_of(line: bytes) -> Any:
 
 
 def members(pairs: list[tuple[str, Any]]) -> dict[str, Any]:
-    """The object of these members. Raises a ValueError if a text in it can't be encoded."""
+    """The object of these members, by the last one of each key. Raises ValueError if a text in it can't be encoded."""
     json.dumps(pairs, ensure_ascii=False).encode()
     return dict(pairs)
 
 
 def number(text: str) -> int | float:
-    """A number. One that is too large for a float is no JSON."""
+    """An int if the text is 0 to 2**64 - 1 in digits alone, else a float. Raises NoJson for one too large."""
     found = re.fullmatch(r"(-?)([0-9]+)(?:\.([0-9]+))?(?:[eE]([+-]?[0-9]+))?", text)
     if not found:
         raise NoJson
@@ -63,7 +63,7 @@ def number(text: str) -> int | float:
 
 
 def is_too_large(digits: str, whole: int, exponent: str) -> bool:
-    """Whether the digits, with so many of them before the point, are too large for a float with this exponent."""
+    """Whether digits, `whole` of them before the point, are too large for a float with this exponent."""
     first, power = digits.lstrip("0"), exponent.lstrip("+-").lstrip("0") or "0"
     if not first or len(power) > 9:
         return bool(first) and not exponent.startswith("-")
@@ -78,7 +78,7 @@ def is_too_large(digits: str, whole: int, exponent: str) -> bool:
 
 
 def is_number(value: Any) -> bool:
-    """Whether a value is a number from 0 on. `True` is none."""
+    """Whether a value is an int: of a line's numbers, one from 0 to 2**64 - 1 in digits alone. `True` is none."""
     return type(value) is int
 
 
@@ -88,12 +88,12 @@ def is_text(value: Any) -> bool:
 
 
 def is_bits(value: Any) -> bool:
-    """Whether a value has the digits of a row, of some side."""
+    """Whether a value is 32, 64 or 128 hexadecimal digits, those of a row of some side."""
     return is_text(value) and len(value) in (32, 64, 128) and all(digit in DIGITS for digit in value)
 
 
 def one_of(*words: str) -> Shape:
-    """A check for one of these words."""
+    """A check whether a value is one of these words."""
     return lambda value: is_text(value) and value in words
 
 
@@ -129,13 +129,14 @@ MACHINES = {1: MACHINE, 2: MACHINE | {"side": is_number}}
 
 
 def is_machine(value: Any) -> bool:
-    """Whether a value is a saved machine, of either version."""
+    """Whether a value has the form of a saved machine, of either version: just its members, each of its kind. Numbers
+    may be out of range."""
     version = value.get("version") if isinstance(value, dict) else None
     return is_number(version) and version in MACHINES and is_object(value, **MACHINES[version])
 
 
 def numbers(names: str) -> dict[str, Shape]:
-    """A check for a number under each of these keys."""
+    """A check for a number for each of these keys, by key. `names` has them with blanks between."""
     return dict.fromkeys(names.split(), is_number)
 
 
@@ -160,13 +161,14 @@ COMMANDS: dict[str, dict[str, Shape]] = {
 
 
 def is_one_of(value: Any, key: str, table: dict[str, dict[str, Shape]]) -> bool:
-    """Whether the value is an object that has a word of the table at its key, and the keys of the word."""
+    """Whether a value is an object with a word of the table at `key`, and just the word's other keys, each of its
+    shape."""
     word = value.get(key) if isinstance(value, dict) else None
     return is_text(word) and word in table and is_object(value, **{key: is_text}, **table[word])
 
 
 def is_command(value: Any) -> bool:
-    """Whether a value is a command."""
+    """Whether a value has the form of a command. Numbers may be out of range."""
     return is_one_of(value, "do", COMMANDS)
 
 
@@ -185,12 +187,12 @@ EVENTS: dict[str, dict[str, Shape]] = {
 
 
 def is_event(value: Any) -> bool:
-    """Whether a value is an event."""
+    """Whether a value has the form of an event. Numbers may be out of range."""
     return is_one_of(value, "event", EVENTS)
 
 
 def is_spelled(line: bytes, command: dict[str, Any]) -> bool:
-    """Whether a line is spelled as it has to be: one that loads a machine has one spelling."""
+    """Whether a line has the spelling that it needs. Only a command that loads a machine needs one: that of `plain`."""
     if command.get("do") != "load":
         return True
     digits = str(command["machine"]["planes"])
@@ -198,7 +200,7 @@ def is_spelled(line: bytes, command: dict[str, Any]) -> bool:
 
 
 def read_line(line: bytes, is_shape: Shape) -> int | dict[str, Any]:
-    """What a line says, a command or an event; or the number of its fault."""
+    """The command or event of a line, or its fault: 1 too long, 2 no JSON, 3 another shape, 4 not `is_spelled`."""
     if len(line) > (LOAD_LIMIT if line.startswith(LOAD_HEAD) else LINE_LIMIT):
         return 1
     try:
@@ -211,11 +213,11 @@ def read_line(line: bytes, is_shape: Shape) -> int | dict[str, Any]:
 
 
 def lines_of(text: bytes) -> list[bytes]:
-    """The lines of bytes. The last one may lack its LF."""
+    """The lines of bytes, without their LFs. The last one may lack its LF."""
     lines = text.split(b"\n")
     return lines if lines[-1] else lines[:-1]
 
 
 def plain(value: Any) -> bytes:
-    """The compact text of a value, its keys in byte order."""
+    """The compact JSON of a value in UTF-8, its keys in byte order, without an LF."""
     return json.dumps(value, separators=(",", ":"), sort_keys=True, ensure_ascii=False).encode()
