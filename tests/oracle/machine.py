@@ -15,7 +15,7 @@ Answer = int | dict[str, Any]
 
 
 def is_rule_name(name: str) -> bool:
-    """Whether a rule may have this name."""
+    """Whether a rule may have this name: 1 to 24 visible ASCII characters, no double quote or backslash, not `-`."""
     return 1 <= len(name) <= 24 and all("!" <= byte <= "~" and byte not in '"\\' for byte in name) and name != "-"
 
 
@@ -37,7 +37,7 @@ class Machine:
         self.due: tuple[str, int, int] | None = None
 
     def do(self, command: dict[str, Any]) -> dict[str, Any]:
-        """Does a command, but puts its steps off. Returns the reply."""
+        """Does a command, but puts its steps off. Returns its reply, with the position after them, or its fault."""
         word = command["do"]
         answer = getattr(self, f"do_{word}")(**{key: value for key, value in command.items() if key != "do"})
         if isinstance(answer, int):
@@ -51,11 +51,11 @@ class Machine:
         return reply
 
     def is_long(self, most: int) -> bool:
-        """Whether the steps that were put off are of more cells than this."""
+        """Whether the steps that were put off, times the cells of the torus, are more than `most`."""
         return self.due is not None and self.due[1] * self.torus.side**2 > most
 
     def forget(self) -> None:
-        """Takes back the steps that were put off."""
+        """Drops the steps that were put off, and goes back to the position before them."""
         if self.due:
             self.position, self.due = self.due[2], None
 
@@ -77,8 +77,8 @@ class Machine:
                 n %= done
 
     def step(self, way: str) -> None:
-        """Replaces the planes by those after the entry at the position, or by those before it. A half without a rule
-        keeps its planes."""
+        """Replaces the planes by those "after" the entry at the position, or "before" it. A half without a rule keeps
+        its planes."""
         entry, new = self.entries[self.position], list(self.torus.planes)
         of_half = self.torus.step_half if way == "after" else self.torus.undo_half
         for half, first in FIRST_PLANE.items():
@@ -92,7 +92,7 @@ class Machine:
         return plane < 4 and row < self.torus.side
 
     def uses(self) -> list[tuple[int, str, str]]:
-        """Each use of a rule in the cycle: the entry's number, the half and the name."""
+        """Each use of a rule in the cycle, in order, A before B: the entry's number from 0, the half and the name."""
         halves = [(i, half, entry[half.lower()]) for i, entry in enumerate(self.entries) for half in "AB"]
         return [(i, half, name) for i, half, name in halves if name != "-"]
 
@@ -101,7 +101,7 @@ class Machine:
         return any(name == used for _, _, used in self.uses())
 
     def do_set(self, plane: int, row: int, bits: str) -> Answer:
-        """Sets a row."""
+        """Sets a row to these digits. Fault 65 if there is no such row, or if they are those of another side."""
         if not self.has_row(plane, row) or len(bits) != self.torus.side // 4:
             return 65
         self.torus.put(plane, row, bits)
@@ -123,7 +123,7 @@ class Machine:
         return {"rows": [self.torus.digits(plane, y) for y in range(self.torus.side)]} if plane < 4 else 65
 
     def do_rule(self, name: str, half: str, hood: str, minor: str, text: str) -> Answer:
-        """Defines a rule, or redefines it."""
+        """Defines a rule, or redefines it. Fault 65 (its name), 61 (in use), 62 (too many), or that of its text."""
         if not is_rule_name(name):
             return 65
         if self.is_used(name):
@@ -137,7 +137,7 @@ class Machine:
         return {}
 
     def do_drop(self, name: str) -> Answer:
-        """Drops a rule."""
+        """Drops a rule. Fault 60 if there is none, 61 if the cycle uses it."""
         if name not in self.rules:
             return 60
         if self.is_used(name):
@@ -146,11 +146,11 @@ class Machine:
         return {}
 
     def do_rules(self) -> Answer:
-        """Lists the rules."""
+        """Lists the names of the rules, in the order in which they were defined."""
         return {"names": list(self.rules)}
 
     def do_cycle(self, entries: list[dict[str, Any]]) -> Answer:
-        """Sets the cycle."""
+        """Sets the cycle, and goes to its first entry. Fault 65, 60 (no such rule) or 66 (one of the other half)."""
         if not 1 <= len(entries) <= 16 or any(entry["phase"] > 3 for entry in entries):
             return 65
         for half, name in ((half, entry[half.lower()]) for entry in entries for half in "AB"):
@@ -162,11 +162,11 @@ class Machine:
         return {}
 
     def why_not(self, n: int) -> int | None:
-        """The fault of so many steps, or None."""
+        """The fault of n steps: 65 if they are too many, 63 if there is no cycle; or None."""
         return 65 if n > 65535 else None if self.entries else 63
 
     def put_off(self, way: str, n: int) -> Answer:
-        """Puts steps off. Returns the position after them."""
+        """Puts n steps off, "after" or "before" the position. Returns the position after them, which counts at once."""
         self.due = way, n, self.position
         self.position = (self.position + (n if way == "after" else -n)) % len(self.entries)
         return {"position": self.position}
@@ -176,7 +176,7 @@ class Machine:
         return self.why_not(n) or self.put_off("after", n)
 
     def do_back(self, n: int) -> Answer:
-        """Undoes steps by the entries before the position."""
+        """Undoes steps by the entries before the position. Fault 64 with the cause if a rule can't be undone."""
         if fault := self.why_not(n):
             return fault
         for i, half, name in self.uses():
@@ -185,7 +185,7 @@ class Machine:
         return self.put_off("before", n)
 
     def do_side(self, side: int) -> Answer:
-        """Makes a blank torus of another side."""
+        """Makes a blank torus of this side, and goes to the first entry. Fault 65 or, above the limit, 67."""
         if side not in SIDES:
             return 65
         if side > self.limit:
@@ -207,7 +207,7 @@ class Machine:
         return {"colours": "".join(f"{self.colours[state]:x}" for state in self.torus.states(row))}
 
     def do_count(self, mask: int) -> Answer:
-        """Counts cells by their states."""
+        """Counts the cells with a state whose bit is set in the mask."""
         return 65 if mask > 65535 else {"count": self.torus.count(mask)}
 
     def do_save(self) -> Answer:
@@ -226,7 +226,7 @@ class Machine:
         }
 
     def do_load(self, machine: dict[str, Any]) -> Answer:
-        """Becomes a machine that was saved."""
+        """Becomes a machine that was saved. Fault 68 if none was saved so, 67 if its side is above the limit."""
         new = saved_machine(machine)
         if new is None:
             return 68
@@ -238,7 +238,7 @@ class Machine:
 
 
 def saved_machine(machine: dict[str, Any]) -> Machine | None:
-    """The machine that was saved so, whatever its limit; or None, if none was."""
+    """The machine that was saved so, with the largest limit; or None, if none was. `machine` passes `is_machine`."""
     new, cycle, side, planes = Machine(max(SIDES)), machine["cycle"], machine.get("side", 256), machine["planes"]
     if new.do_side(side) != {} or any(len(rows) != side for rows in planes):
         return None
@@ -261,11 +261,11 @@ class Alone:
         self.machine = Machine(limit)
 
     def answer(self, line: bytes) -> bytes:
-        """The reply to a line."""
+        """Does the command of a line, with its steps, and returns the reply or the fault, without an LF."""
         return self.short_answer(line, None) or b""
 
     def short_answer(self, line: bytes, most: int | None) -> bytes | None:
-        """The reply to a line; or None, if it has steps of more cells than the most, and nothing is done."""
+        """As `answer`; or None, with nothing done, if steps times cells are more than `most`, if that isn't None."""
         command = read_line(line, is_command)
         if isinstance(command, int):
             return plain({"fault": command})
@@ -278,6 +278,6 @@ class Alone:
 
 
 def answers(lines: list[bytes], limit: int = 256) -> list[bytes]:
-    """The replies of a new machine to lines."""
+    """The replies of a new machine to lines, each without an LF. `limit` is its largest side."""
     alone = Alone(limit)
     return [alone.answer(line) for line in lines]

@@ -9,5 +9,5 @@ PALETTE = (
 
 
 def default_palette() -> list[tuple[int, int, int]]:
-    """The lights of the sixteen colours, as numbers."""
+    """Red, green and blue of the sixteen colours, each from 0 to 255, by the number of the colour."""
     return [(light[0], light[1], light[2]) for light in map(bytes.fromhex, PALETTE)]

@@ -25,11 +25,11 @@ class Pattern(NamedTuple):
     cells: Cells
 
     def planes(self) -> tuple[int, ...]:
-        """As many planes as the states need: one or four."""
+        """The planes that the states need: plane 0 if none is above 1, else all four."""
         return (0,) if max(self.cells.values(), default=0) < 2 else (0, 1, 2, 3)
 
     def set_lines(self, side: int, column: int, row: int, planes: Sequence[int]) -> str:
-        """The lines that set the pattern with the origin of its text at this column and row."""
+        """A `set` line for each row in each of `planes`, blank elsewhere. The text's origin is at column and row."""
         lines = b""
         for y in range(self.height):
             for level, plane in enumerate(planes):
@@ -60,7 +60,7 @@ def read_pattern(text: str) -> Pattern:
 
 
 def replies_of(cells: Cells, side: int) -> str:
-    """The replies that show cells: a plane, or rows in colours if there are states above 1."""
+    """Lines of replies that show cells on a torus: a plane, or rows in colours if there are states above 1."""
     rows = [[cells.get((x, y), 0) for x in range(side)] for y in range(side)]
     if max(cells.values(), default=0) < 2:
         digits = [f"{int(''.join(map(str, row)), 2):0{side // 4}x}" for row in rows]
@@ -70,6 +70,6 @@ def replies_of(cells: Cells, side: int) -> str:
 
 
 def random_cells(seed: int, side: int, most: int, share: float) -> Cells:
-    """This share of the cells of a torus, with states of 1 up to the most."""
+    """Random cells of a torus by a seed: each with probability `share`, with a state of 1 to `most`."""
     random = Random(seed)
     return {(x, y): random.randint(1, most) for x in range(side) for y in range(side) if random.random() < share}

@@ -13,7 +13,7 @@ Light = tuple[int, int, int]
 
 
 def pictures(replies: str) -> Iterator[Image.Image]:
-    """The pictures that replies show, a pixel for each cell. A pixel is the number of its colour."""
+    """The picture of each plane or run of rows in colours, a pixel for each cell: the number of its colour."""
     rows: list[bytes] = []
     for reply in map(json.loads, replies.splitlines()):
         if "colours" in reply:
@@ -28,8 +28,8 @@ def pictures(replies: str) -> Iterator[Image.Image]:
 def draw(
     replies: str, scale: int, window: Sequence[int] | None, palette: Sequence[Light] | None = None
 ) -> list[Image.Image]:
-    """The pictures in a window, column, row, width and height, with so many pixels for a cell each way. A window goes round
-    the torus."""
+    """The pictures in RGB of a window (column, row, width, height), or of all if it is None. A cell has `scale` pixels
+    each way. A window goes round the torus."""
     images = []
     for image in pictures(replies):
         x, y, width, height = window or (0, 0, *image.size)

@@ -24,7 +24,7 @@ class Key(NamedTuple):
 
 
 def bit_of_block(name: str, state: int, phase: int, place: int) -> int:
-    """What a place of a block sees under a name."""
+    """The bit that place 0 to 3 of a block sees under a name. `state` is one of `STATES`."""
     is_upper, word = name.endswith("'"), name.strip("&'")
     if word in TURNS:
         return state >> ((place + TURNS[word]) % 4 + 4 * is_upper) & 1
@@ -78,8 +78,8 @@ class Rule:
 
     @cache
     def cause(self) -> dict[str, Any] | None:
-        """Why the rule can't be undone, or None: at the least phase at which two states meet, the least one that another one
-        meets, and that one."""
+        """Why the rule can't be undone, or None. `states` has the least one that becomes what a lower one does, after
+        that one, at the least phase."""
         if not self.key.hood.startswith("N/MARG"):
             return {"cause": "hood"}
         if self.key.minor == "&/CENTERS":
@@ -94,7 +94,7 @@ class Rule:
 
 @cache
 def rule_of(half: str, hood: str, minor: str, text: str) -> Rule | dict[str, int]:
-    """The rule of a text, or what is answered if it isn't one."""
+    """The rule of a text, or the reply with its fault, if it isn't one or if its words stop at an address."""
     try:
         rule = Rule(Key(half, hood, minor, text))
     except forth.TextFault as fault:

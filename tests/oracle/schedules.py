@@ -81,7 +81,7 @@ class Scheduler:
         yield from one_event(word, **named)
 
     def bring_to_rest(self, most: int = LARGEST) -> Iterator[Event]:
-        """Repairs all boards, and brings the users to rest who have this many bands left at most."""
+        """Repairs all boards, and brings the users to rest who have `most` bands left at most. Queues the others."""
         host = self.host
         for board in host.boards_with(DEAD):
             yield from one_event("repair", board=board)

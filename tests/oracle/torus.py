@@ -40,7 +40,7 @@ def rule_outputs(rule: Rule, planes: list[bytes]) -> bytes:
 
 
 def shifted(row: bytes, columns: int) -> bytes:
-    """A row in which each cell has the state of the one so many columns further east."""
+    """A row in which each cell has the state of the one so many columns further east, round the torus."""
     return row[columns:] + row[:columns]
 
 
@@ -52,11 +52,11 @@ class Torus:
         self.planes = [[bytes(side)] * side for _ in range(4)]
 
     def row(self, plane: int, y: int) -> bytes:
-        """A row, counted round the torus."""
+        """A row of a plane, a byte of 0 or 1 for each cell. `y` is counted round the torus."""
         return self.planes[plane][y % self.side]
 
     def shown(self, name: str, half: str, grid: str, phase: int, y: int) -> bytes:
-        """What the cells of a row see under a name."""
+        """What the cells of row `y` see under a name of a rule of this half: a byte of 0 or 1 for each."""
         odd, upper, word = int(grid == "ODD"), int(name.endswith("'")), name.rstrip("'")
         own = FIRST_PLANE[half] + upper
         if word.endswith("PHASE"):
@@ -79,7 +79,7 @@ class Torus:
         return bytes(row)
 
     def step_half(self, rule: Rule, grid: str, phase: int) -> list[list[bytes]]:
-        """The two planes of the rule's half after a step."""
+        """The two planes of the rule's half after a step, the lower one first. The torus stays as it is."""
         rows, half = range(self.side), rule.key.half
         states = rule_outputs(
             rule, [b"".join(self.shown(name, half, grid, phase, y) for y in rows) for name in rule.names]
@@ -107,14 +107,14 @@ class Torus:
         return f"{int(self.planes[plane][y].translate(DIGITS), 2):0{self.side // 4}x}"
 
     def put(self, plane: int, y: int, digits: str) -> None:
-        """Sets a row of a plane to these digits."""
+        """Sets a row of a plane to these hexadecimal digits."""
         self.planes[plane][y] = bytes(map(int, f"{int(digits, 16):0{self.side}b}"))
 
     def states(self, y: int) -> Iterator[int]:
-        """The states of the cells of a row, from 0 to 15."""
+        """The states of the cells of a row, from 0 to 15, from column 0 on."""
         return iter(numbers([plane[y] for plane in self.planes]))
 
     def count(self, mask: int) -> int:
-        """How many cells have one of the states of a mask."""
+        """How many cells have a state whose bit is set in the mask."""
         states = numbers([b"".join(plane) for plane in self.planes])
         return sum(states.count(state) for state in range(16) if mask >> state & 1)

@@ -24,7 +24,7 @@ def text_of(path: str | Path) -> str:
 
 
 def sources_of(crate: str) -> list[Path]:
-    """All sources of a crate."""
+    """The paths of all sources of a crate, sorted."""
     return sorted((CRATES / crate / "src").rglob("*.rt"))
 
 

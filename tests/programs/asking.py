@@ -33,7 +33,7 @@ FEW, MANY = st.text("137f8F", max_size=4), st.text("0123456789abcdefABCDEF", min
 
 
 def edited(draw: st.DrawFn, items: list[Any], new: Any) -> list[Any]:
-    """Items in another order, several times, fewer of them, or with a new one before another or in its place."""
+    """Draws `items` in another order, several times, fewer of them, or with `new` before another or in its place."""
     at = draw(st.integers(0, len(items)))
     first, last = items[:at], items[at:]
     ways = [items[::-1], first, last, items * 2, (items * 17)[:40], [*first, new, *last], [*first, new, *last[1:]]]
@@ -41,7 +41,7 @@ def edited(draw: st.DrawFn, items: list[Any], new: Any) -> list[Any]:
 
 
 def entries(names: st.SearchStrategy[str], phases: st.SearchStrategy[int]) -> st.SearchStrategy[Command]:
-    """An entry of a cycle with these names and phases."""
+    """Draws entries of a cycle with these names and phases."""
     return st.fixed_dictionaries({"a": names, "b": names, "grid": GRIDS, "phase": phases})
 
 

@@ -41,7 +41,8 @@ class Raw(bytes):
 
 
 def places(value: Any) -> Iterator[tuple[Any, int | str]]:
-    """The places in a value: of each the list or object, and the index or key. Of a list of many there are three."""
+    """The places in a value, at any depth: the list or object, and the index or key. Of over 100 items there are
+    three."""
     keys = value if isinstance(value, dict) else range(len(value)) if isinstance(value, list) else []
     if isinstance(keys, range) and len(keys) > 100:
         keys = [0, len(keys) // 2, len(keys) - 1]
@@ -58,7 +59,8 @@ class Speller:
         self.spaces = SPACES if random.random() < 0.4 else [b""]
 
     def spell(self, value: Any) -> bytes:
-        """Spells a value as JSON, in any way: with blanks or not, and the keys of an object in some order."""
+        """Spells a value as JSON, in any way: blanks, escapes, the order of keys. A `Raw` stands as it is, JSON or
+        not."""
         if isinstance(value, Raw):
             text = bytes(value)
         elif isinstance(value, dict):
@@ -76,15 +78,15 @@ class Speller:
         return self.random.choice(self.spaces)
 
     def join(self, parts: Iterable[bytes]) -> bytes:
-        """Joins parts by commas, with blanks between them."""
+        """Joins parts by commas. If there are none, returns blanks or nothing."""
         return b",".join(parts) or self.space()
 
     def text(self, text: str) -> bytes:
-        """A string, whose letters may be escapes."""
+        """A JSON string with its quotes, whose letters may be escapes."""
         return b'"' + b"".join(map(self.letter, text)) + b'"'
 
     def letter(self, letter: str) -> bytes:
-        """A letter, maybe as an escape."""
+        """A letter as it stands in a JSON string, maybe as an escape."""
         if self.random.random() < self.escapes:
             digits = letter.encode("utf-16-be").hex()
             units = [digits[i : i + 4] for i in range(0, len(digits), 4)]
@@ -121,7 +123,8 @@ class Breaker:
         return self.change_bytes(self.spell(value) if self.random.random() < 0.5 else plain(value))
 
     def spell(self, value: Any) -> bytes:
-        """Spells a value in any way. A line that is to load a machine mostly begins so that it may be long."""
+        """Spells a value in any way. A command that loads a machine mostly begins with `LOAD_HEAD`, as a long line
+        must."""
         speller = Speller(self.random)
         is_load = isinstance(value, dict) and list(value) == ["do", "machine"] and value["do"] == "load"
         if is_load and self.random.random() < 0.8:
@@ -133,11 +136,11 @@ class Breaker:
         return Raw(self.random.choice(self.random.choice([NUMBERS, NUMBERS, VALUES])).encode())
 
     def change_value(self, _: Any, inner: Any, key: Any) -> None:
-        """Puts another value under a key or an index."""
+        """Puts another value, or what is no JSON, under a key or an index."""
         inner[key] = self.any_value()
 
     def change_number(self, value: Any, inner: Any, key: Any) -> None:
-        """Replaces a number by another one, if there is any."""
+        """Replaces a number of `value` by another one, or by no JSON. Without any, replaces what is at `key`."""
         numbers = [(inner, key) for inner, key in places(value) if isinstance(inner[key], int)]
         inner, key = self.random.choice(numbers or [(inner, key)])
         inner[key] = Raw(self.random.choice(NUMBERS).encode())
@@ -147,7 +150,7 @@ class Breaker:
         del inner[key]
 
     def add_key(self, _: Any, inner: Any, key: Any) -> None:
-        """Adds a member to an object, or an item to a list."""
+        """Adds a member to an object, maybe in place of one, or an item to the end of a list."""
         if isinstance(inner, dict):
             inner[self.random.choice(KEYS)] = self.random.choice([0, "x", self.any_value()])
         else:
@@ -161,14 +164,15 @@ class Breaker:
             inner.reverse()
 
     def nest(self, _: Any, inner: Any, key: Any) -> None:
-        """Replaces a value by one that is nested as deep as can be, or deeper."""
+        """Replaces a value by one that is nested about as deep as can be, or far deeper. It may lack its last
+        bracket."""
         depth = self.random.choice([1, *range(122, 129), *range(122, 129), 5000])
         first, last = self.random.choice([(b"[", b"]"), (b'{"a":', b"}")])
         inside = self.random.choice([b"1", b"{}", b"[]"])
         inner[key] = Raw(first * depth + inside + last * (depth - (self.random.random() < 0.1)))
 
     def change_text(self, value: Any, inner: Any, key: Any) -> None:
-        """Replaces, adds or removes a letter of a text."""
+        """Replaces, adds or removes a letter of a text in `value`, or leaves it."""
         inner, key = self.random.choice([(inner, key) for inner, key in places(value) if isinstance(inner[key], str)])
         i = self.random.randrange(len(inner[key]) + 1)
         letter = self.random.choice([*"AB-0f()>;: \t\n\x00\x0b", "é", "😀", " ; ", " DUP ", ""])
@@ -209,8 +213,8 @@ class Breaker:
         return random.choice(random.choice(ways))
 
     def pad(self, line: bytes) -> list[bytes]:
-        """A line with space at its end, at its front or within: up to the largest length, or about it; seldom up to the
-        largest one of a load."""
+        """Three lines: this one with space, or with `x`, at its end, at or near its end or front, and near its front.
+        Most are about as long as may be."""
         is_longest = line.startswith(LOAD_HEAD) and self.random.random() < 0.2
         limit, at = (LOAD_LIMIT, len(LOAD_HEAD)) if is_longest else (LINE_LIMIT, 1)
         length = limit + self.random.choice([-1, 0, 0, 1, 1, 2, LINE_LIMIT, 2 * LINE_LIMIT])

@@ -36,11 +36,12 @@ def outputs_of(half: str) -> list[str]:
 def values(
     seen: list[str], ones: st.SearchStrategy[Tokens] = ONES, twos: st.SearchStrategy[Tokens] = TWOS
 ) -> st.SearchStrategy[Tokens]:
-    """Draws words that leave a value, if they don't stop."""
+    """Draws words that leave one value, if they don't stop. `ones` change a value, `twos` make one of two."""
     leaves = (st.sampled_from(seen) | NUMBERS).map(lambda token: [token])
     sums = st.lists(st.sampled_from(seen), min_size=1, max_size=4)
 
     def larger(inner: st.SearchStrategy[Tokens]) -> st.SearchStrategy[Tokens]:
+        """Draws longer words that leave one value, made of shorter ones that do."""
         two, three = st.tuples(inner, inner), st.tuples(inner, inner, inner)
         return st.one_of(
             st.tuples(inner, ones).map(lambda p: [*p[0], *p[1]]),
@@ -138,7 +139,7 @@ def broken_tokens(draw: st.DrawFn, half: str, hood: str, minor: str) -> Tokens:
 
 
 def doubled(name: str, first: str, times: int) -> str:
-    """Definitions, of which each has the name of the one before it twice."""
+    """Definitions `name0` to `name{times}`. The first one does `first`, each other one does the one before it twice."""
     text = f": {name}0 {first} ;"
     for k in range(1, times + 1):
         text += f" : {name}{k} {name}{k - 1} {name}{k - 1} ;"

@@ -19,7 +19,7 @@ PACKAGES = {"haproxy": "haproxy", "openssl": "openssl", "systemd-analyze": "syst
 
 
 def pytest_collection_modifyitems(config: pytest.Config, items: list[pytest.Item]) -> None:
-    """Tests of a fleet may take as long as the options say, and longer to compare what came."""
+    """Marks the tests of fleets. Each may take 600 s and four times as long as the option `--fleet-seconds` says."""
     for item in items:
         if item.path.parent.name == "fleets":
             item.add_marker("fleet")
@@ -38,6 +38,7 @@ def host_with_user(host: Hosts, usual: Session) -> Iterator[Hosts]:
     with ExitStack() as stack:
 
         def begin(user: int, *options: str) -> Host:
+            """Starts a host with these options, at which this user goes on."""
             one = host(*options)
             stack.enter_context(steady(seated(Peer, one.port, user), usual))
             return one

@@ -35,7 +35,7 @@ Fields = Mapping[str, Optional[str]]
 
 
 def rows_of(name: str) -> list[Row]:
-    """The rows of a file of `data`."""
+    """The rows of this file of `data`, named without `.json`."""
     rows: list[Row] = json.loads((Path(__file__).parent / "data" / f"{name}.json").read_text(encoding="utf-8"))
     return rows
 
@@ -46,7 +46,7 @@ def each_row(name: str) -> list[Any]:
 
 
 def text_of(parts: Any) -> str:
-    """The bytes of a row of the data, as a text."""
+    """A text of a row of the data: as it is, or its parts joined, each as often as it says."""
     if isinstance(parts, str):
         return parts
     return "".join(part if isinstance(part, str) else part["text"] * part["times"] for part in parts)
@@ -69,8 +69,8 @@ class Answer:
 
 
 def answer_to(port: int, *lines: str, ends: bool = False) -> Answer:
-    """Sends the lines of a request and an empty one, and reads the answer until the server ends. If `ends`, shuts its
-    own side after the lines."""
+    """Sends the lines of a request, and then an empty one or, if `ends`, the end of its own side. Reads the answer
+    until the server ends."""
     whole, request = b"", "\r\n".join(lines if ends else (*lines, "", "")).replace("PORT", str(port))
     with socket.create_connection(("127.0.0.1", port), timeout=20) as tcp:
         with suppress(BrokenPipeError, ConnectionResetError):
@@ -84,7 +84,7 @@ def answer_to(port: int, *lines: str, ends: bool = False) -> Answer:
 
 
 def get(port: int, path: str, fields: Mapping[str, str] | None = None) -> Answer:
-    """Sends a well-formed GET with these fields, and returns the answer."""
+    """Sends a well-formed GET with these fields besides Host, or in its place, and returns the answer."""
     all_fields = {"Host": "127.0.0.1:PORT"} | dict(fields or {})
     return answer_to(port, f"GET {path} HTTP/1.1", *(f"{name}: {value}" for name, value in all_fields.items()))
 
@@ -97,8 +97,8 @@ class AnyFrame(Frame):
 
 
 def frame_of(opcode: int, payload: bytes = b"", *, last: bool = True, masked: bool = True, **row: Any) -> bytes:
-    """The bytes of a frame as a client sends it, right or wrong. A row may have its payload in digits, or as a text that comes
-    some times, and the three reserved bits of the frame."""
+    """The bytes of a frame as a client sends it, right or wrong. `row` may have the payload in digits (`hex`), or a
+    `text` that comes `times` times, and the three `reserved` bits."""
     payload = payload or bytes.fromhex(row.get("hex", "")) or row.get("text", "").encode() * row.get("times", 1)
     bits = (bool(row.get("reserved", 0) & bit) for bit in (4, 2, 1))
     return AnyFrame(cast(Opcode, opcode), payload, last, *bits).serialize(mask=masked)
@@ -157,34 +157,35 @@ class Socket(Peer):
         return got
 
     def read(self) -> str | None:
-        """The next text, or None if the server closes."""
+        """The next text, after any pings and pongs. None if the server ends, or sends a frame of another kind."""
         while (got := self.frame()) and got.opcode in (Opcode.PING, Opcode.PONG):
             pass
         return got.data.decode() if got and got.opcode is Opcode.TEXT else None
 
     def send(self, data: bytes | str) -> None:
-        """Sends a text, or bytes as they are."""
+        """Sends a text as a frame, or bytes as they are."""
         super().send(frame_of(Opcode.TEXT, data.encode()) if isinstance(data, str) else data)
 
     def try_to_send(self, data: bytes) -> None:
-        """Sends as much as is taken."""
+        """Sends bytes as they are. If that fails, or nothing is taken for the time of the patience, drops the rest."""
         with suppress(OSError):
             self.send(data)
 
     def ask(self, line: str) -> str | None:
-        """Sends a text, and returns the next one of the server."""
+        """Sends a text, and returns the next one of the server, or None as `read` does."""
         self.send(line)
         return self.read()
 
     def closed(self) -> tuple[int, str] | None:
-        """The code and the reason with which the server closes, or None if it ends without. Texts are passed over."""
+        """The code and the reason with which the server closes, or None if it ends without. Passes other frames
+        over."""
         while (got := self.frame()) and got.opcode is not Opcode.CLOSE:
             pass
         close = self.protocol.close_rcvd
         return (close.code, close.reason) if got and close else None
 
     def leave(self, reason: str = "") -> int | None:
-        """Closes as a page does. Returns the server's code."""
+        """Closes as a page does, with code 1000. Returns the server's code, or None if it ends without."""
         self.protocol.send_close(1000, reason)
         self.flush()
         with self:
@@ -193,7 +194,7 @@ class Socket(Peer):
 
 
 def status_of(port: int, path: str = "/ws", fields: Fields | None = None) -> int:
-    """The status of the answer to a handshake."""
+    """The status of the answer to a handshake, 101 if it succeeds. Closes the connection."""
     try:
         Socket(port, path=path, fields=fields).close()
     except InvalidStatus as refused:
@@ -206,7 +207,7 @@ class Received(StreamRequestHandler):
     host ends the connection, and `bytes` is answered by a line that isn't UTF-8."""
 
     def handle(self) -> None:
-        """Keeps the bytes that come, and answers each line."""
+        """Keeps the bytes that come, and answers each line, until `end` or the end of the connection."""
         self.data, self.has_ended = b"", threading.Event()
         cast(Recorder, self.server).connections.append(self)
         with suppress(OSError):

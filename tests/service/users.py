@@ -53,12 +53,13 @@ class Session(NamedTuple):
 
 
 def answers(peer: Peer, lines: list[str]) -> list[str | None]:
-    """The answers to lines. Each waits for the answer to the one before."""
+    """The answers to lines, None after the connection has ended. Each waits for the answer to the one before."""
     return [peer.ask(line) for line in lines]
 
 
 def seated(kind: Callable[[int, int], P], port: int, user: int, patience: float = PATIENCE) -> P:
-    """A connection of a kind at a user's seat, once nobody has it. Fails if somebody has it for so many seconds."""
+    """A connection by `kind` at a user's seat, once nobody has it. Fails if it is taken for so long, or by another
+    reply."""
     end = time.monotonic() + patience
     while (peer := kind(port, user)).reply == TAKEN and time.monotonic() < end:
         peer.close()
@@ -84,7 +85,7 @@ def closed(peers: Sequence[Peer], within: float) -> int:
 
 
 def fill(peer: Peer) -> None:
-    """Asks for answers without reading any, until no more can be sent."""
+    """Asks for planes without reading any, until nothing is taken for a second. Sets that timeout."""
     peer.socket.settimeout(1)
     with suppress(OSError):
         while True:
@@ -110,6 +111,7 @@ def steady(peer: Peer, session: Session, pause: float = 0) -> Iterator[Callable[
     enough, rounds = Event(), 0
 
     def go_on() -> None:
+        """Has the user send the session until `enough` is set, and once more. Fails if a reply is wrong."""
         nonlocal rounds
         is_last = False
         while not is_last:

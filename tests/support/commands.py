@@ -18,12 +18,12 @@ def do(word: str, **named: Any) -> Command:
 
 
 def rule_command(name: str, half: str, hood: str, minor: str, text: str) -> Command:
-    """The command that keeps a rule."""
+    """The command that defines a rule."""
     return do("rule", name=name, half=half, hood=hood, minor=minor, text=text)
 
 
 def cycle_command(*entries: tuple[str, str, str, int]) -> Command:
-    """The command that keeps a cycle, by the two rules, the grid and the phase of each entry."""
+    """The command that sets a cycle, by the two rules, the grid and the phase of each entry."""
     return do("cycle", entries=[dict(zip(("a", "b", "grid", "phase"), entry)) for entry in entries])
 
 
@@ -69,7 +69,7 @@ class Asker:
         return [*lines, self.cycle()]
 
     def cycle(self) -> Command:
-        """A cycle of the rules."""
+        """The command that sets a random cycle of the rules."""
         halves = {half: [name for name, word in self.words.items() if RULES[word][0] == half] for half in "AB"}
         entries = []
         for _ in range(self.random.choice([1, 2, 2, 3, 4, 16])):
@@ -82,12 +82,12 @@ class Asker:
         return [self.ask_picture] * self.random.randrange(2, 5)
 
     def row(self) -> int:
-        """A row, which is often one at a seam."""
+        """The number of a row, which is often one at a seam."""
         side = self.side()
         return self.random.choice([0, 15, 16, side - 17, side - 1, self.random.randrange(side)])
 
     def digits(self) -> str:
-        """A row with few set cells."""
+        """The hexadecimal digits of a row with few set cells."""
         digits = ["0"] * (self.side() // 4)
         for _ in range(self.random.randrange(1, 4)):
             place = self.random.choice([0, len(digits) - 1, self.random.randrange(len(digits))])
@@ -111,7 +111,7 @@ class Asker:
         return self.random.choice(looks)
 
     def ask_other_rules(self) -> Command:
-        """Another cycle of the same rules; other rules; another text for a name; or more rules than there can be."""
+        """Plans another cycle, other rules, another text for a name, or too many rules. Returns the first command."""
         choice, name = self.random.random(), self.random.choice(list(self.words))
         if choice < 0.3:
             return self.cycle()

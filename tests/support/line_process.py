@@ -32,7 +32,7 @@ class LineProcess:
         return max(0.0, self.end - time.monotonic())
 
     def send(self, data: bytes) -> None:
-        """Sends bytes. If the program takes no more of them, what comes back shows it."""
+        """Sends bytes, for `PATIENCE` seconds at most. What the program doesn't take by then is dropped."""
         self.end = time.monotonic() + PATIENCE
         with suppress(BrokenPipeError):
             while data and select.select([], [self.input], [], self.left())[1]:
@@ -78,5 +78,5 @@ class LineProcess:
 
 
 def how_it_ended(status: int, errors: bytes) -> bytes:
-    """Nothing if a program ended well, else a line that says how it ended."""
+    """Nothing if a program ended with status 0 and no errors, else a line with both."""
     return b"" if (status, errors) == (0, b"") else b"the program: status %d, %r\n" % (status, errors)

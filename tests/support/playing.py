@@ -20,7 +20,7 @@ def examples(*folders: str) -> list[ParameterSet]:
 
 
 def first_other(answers: bytes, wanted: bytes) -> int:
-    """The first line, from 1, in which two texts differ, or 0."""
+    """The first line, from 1, in which two texts differ, or 0 if they are the same."""
     if answers == wanted:
         return 0
     pairs = enumerate(zip(answers, wanted))
@@ -29,7 +29,7 @@ def first_other(answers: bytes, wanted: bytes) -> int:
 
 
 def both_lines(came: bytes, wanted: bytes, number: int) -> str:
-    """A line of two texts, as it is shown."""
+    """Line `number`, from 1, of two texts, as a failure shows it."""
     found = (text.split(b"\n")[:-1][number - 1 : number] for text in (came, wanted))
     return show_both(*(lines[0] if lines else ... for lines in found))
 

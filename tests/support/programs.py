@@ -28,7 +28,7 @@ NETWORK_FAILED, STARTS = 7, 5
 
 
 def built(name: str, named: str | None = None) -> Path | None:
-    """The path of a program, if it is there: the one that is named, or else the one that the gate built."""
+    """The path of a program, or None if it isn't there: of `named` if it is given, or else the one that was built."""
     crate = (CRATES | PLAYERS)[name]
     places = [Path(named)] if named else [TOP / "crates" / crate / "out" / crate, TOP / name]
     return next((path.resolve() for path in places if os.access(path, os.X_OK)), None)
@@ -43,7 +43,7 @@ class Ran(NamedTuple):
 
 
 def ran(command: Iterable[str], data: bytes = b"", env: Env = None, patience: float = END) -> Ran:
-    """Runs a program to its end, with these bytes as its input."""
+    """Runs a program to its end, with `data` as its input. Raises TimeoutExpired if it takes longer than `patience`."""
     all_env = os.environ | dict(env or {})
     # By files, since megabytes go through a pipe in thousands of switches between two processes.
     with tempfile.TemporaryFile() as given, tempfile.TemporaryFile() as output:
@@ -61,21 +61,21 @@ def assert_refused(done: Ran, status: int, message: str) -> None:
 
 
 def private(cam6: str, lines: Iterable[str], side: int = 512) -> list[str]:
-    """Runs `cam6 alone` on these lines, and returns its replies."""
+    """Runs `cam6 alone` on these lines, and returns its replies. Fails if the program does."""
     done = ran([cam6, "alone", "--side", str(side)], "".join(f"{line}\n" for line in lines).encode())
     assert done.status == 0, done
     return done.output.decode().splitlines()
 
 
 def free_port() -> int:
-    """A port that nobody listens at."""
+    """A port of this machine that nobody listens at now."""
     with socket.socket() as free:
         free.bind(("127.0.0.1", 0))
         return int(free.getsockname()[1])
 
 
 def of_process(pid: int, name: str) -> int:
-    """A number that the system knows of a process: VmRSS (in kB) or Threads, for example."""
+    """A number that the system knows of a process: VmRSS (in kB) or Threads, for example. It is 0 if there is none."""
     with open(f"/proc/{pid}/status", encoding="utf-8") as lines:
         return next((int(line.split()[1]) for line in lines if line.startswith(f"{name}:")), 0)
 
@@ -116,13 +116,14 @@ class Listener:
         raise NotListening(self.command_at(self.port), Ran(self.process.returncode, b"", errors))
 
     def begins(self) -> bool:
-        """Starts the program. Returns whether it listens."""
+        """Starts the program, and waits for its first line. Returns whether it listens. If not, it has ended."""
         self.errors = []
         command, env = self.command_at(self.port), os.environ | self.env
         self.process = subprocess.Popen(command, stdin=self.stdin, stdout=PIPE, stderr=PIPE, env=env)
         has_written = threading.Event()
 
         def listen() -> None:
+            """Keeps the lines of the program's errors, until it ends."""
             assert self.process.stderr
             for line in self.process.stderr:
                 self.errors.append(line.decode(errors="replace").rstrip("\n"))
@@ -139,11 +140,11 @@ class Listener:
         return False
 
     def begin(self) -> None:
-        """Starts the program again, at the same port."""
+        """Starts the program again, at the same port. Fails if it doesn't listen after `START` seconds of trying."""
         assert wait_until(self.begins, START), self.errors
 
     def kill(self) -> None:
-        """Ends the program at once."""
+        """Ends the program by SIGKILL, and waits until it has ended."""
         self.process.kill()
         self.ended()
 
@@ -220,7 +221,7 @@ class Peer:
         return line[:-1].decode() if line.endswith(b"\n") else None
 
     def ask(self, line: str) -> str | None:
-        """Sends a line, and returns the answer."""
+        """Sends a line, and returns the next one that comes, or None if the connection has ended."""
         self.send(f"{line}\n")
         return self.read()
 

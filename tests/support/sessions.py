@@ -21,7 +21,7 @@ def line_of(**command: Any) -> str:
 
 
 def short(line: object, first: int = 0) -> str:
-    """A part of a line, as Python writes it, from this character on. `...` is no line."""
+    """At most `SHOWN` characters of a line's `repr`, from character `first` on. `...` is no line."""
     text = "nothing" if line is ... else repr(line)
     return f"{'.. ' * (first > 0)}{text[first : first + SHOWN]}{' ..' * (len(text) > first + SHOWN)}"
 

@@ -24,12 +24,12 @@ class Commands:
         self.saved: bytes | None = None
 
     def some(self) -> list[bytes]:
-        """One command, or several that are sent at once."""
+        """One line, or several that are sent at once, without LFs."""
         count = 1 if self.rng.random() < 0.8 else self.rng.randrange(2, 8 if self.is_small else 30)
         return [self.one() for _ in range(count)]
 
     def one(self) -> bytes:
-        """A command in one of two spellings, or, once the machine is set up, a line of another kind."""
+        """A command in one of two spellings, or, once the machine is set up, a line of another kind. Without an LF."""
         if not self.asker.wishes and self.rng.random() < 0.06:
             return self.rng.choice([SAVE, self.saved or SAVE, *self.rng.sample(REFUSED, 3), *PLANES])
         return json.dumps(self.asker.command(), separators=self.rng.choice([(",", ":"), (", ", ": ")])).encode()

@@ -41,14 +41,14 @@ WAITS = {"CAM6_WAIT": "2s", "CAM6_SILENT": "2s", "CAM6_ASKED": "1s", "CAM6_UNREA
 
 
 def ip(*words: str) -> None:
-    """Runs `ip`, which has to succeed."""
+    """Runs `ip` with these arguments. Raises CalledProcessError if it fails."""
     subprocess.run(["ip", *words], check=True, stdin=DEVNULL, capture_output=True)
 
 
 @contextmanager
 def ended_by_sigterm() -> Iterator[None]:
-    """Whoever ends the tests meanwhile has programs and namespaces removed too. Only a main thread gets signals. A worker of
-    xdist has its tests in another thread if the computer was busy as the worker began."""
+    """Within the context a SIGTERM ends the tests by `pytest.exit`, so that they remove programs and namespaces. In a
+    thread other than the main one, as a worker of xdist may have, it does nothing."""
     if threading.current_thread() is not threading.main_thread():
         yield
         return
@@ -137,13 +137,13 @@ class Service:
         self.processes: list[Popen[bytes]] = []
 
     def start(self, *more: str) -> None:
-        """Starts the program."""
+        """Starts the program, with these arguments too, and doesn't wait. Its log gets what it writes."""
         with self.log.open("ab") as log:
             self.process = Popen([*self.words, *more], stdin=DEVNULL, stdout=log, stderr=log, env=self.env)
         self.processes.append(self.process)
 
     def kill(self) -> None:
-        """Ends the program by SIGKILL, which it can't handle."""
+        """Ends the program by SIGKILL, which it can't handle, and waits for that. So are those that ran before."""
         for process in self.processes:
             process.kill()
             process.wait()
@@ -165,11 +165,11 @@ class Service:
         self.kill()
 
     def of_process(self, name: str) -> int:
-        """A number that the system knows of the process."""
+        """A number that the system knows of the process, as VmRSS (in kB) or Threads; 0 if it knows none."""
         return of_process(self.process.pid, name)
 
     def seconds(self) -> float:
-        """Its processor time so far."""
+        """The processor time of the process so far, in seconds."""
         stat = Path(f"/proc/{self.process.pid}/stat").read_text(encoding="utf-8")
         user, system = stat.rpartition(")")[2].split()[11:13]
         return (int(user) + int(system)) / os.sysconf("SC_CLK_TCK")
@@ -185,7 +185,7 @@ class Proxy(Service):
         super().__init__(fleet.ground, node, words, fleet.folder / f"{name}.log", values)
 
     def start(self, *more: str) -> None:
-        """Starts the proxy, and waits until it answers."""
+        """Starts the proxy, and waits until it answers. Fails if it doesn't within `START` seconds."""
         super().start(*more)
         wait_until(lambda: self.is_there() or self.process.poll() is not None, START)
         assert self.is_there(), f"{' '.join(self.words)} is not there; {self.log} says why"
@@ -210,7 +210,7 @@ class Proxy(Service):
         return next((row for row in rows if (row["pxname"], row["svname"]) == (backend, server)), {})
 
     def state(self, server: str, backend: str = "fleet") -> str:
-        """Whether a server is UP, DOWN, in DRAIN or in MAINT."""
+        """A server's status, as UP, DOWN, DRAIN or MAINT. It is empty if the proxy has no such server."""
         return self.stats(server, backend).get("status", "").partition(" ")[0]
 
     def is_up(self, server: str, backend: str = "fleet") -> bool:
@@ -243,11 +243,11 @@ class Fleet:
         self.front = Proxy(self, "front", "haproxy.cfg", "haproxy")
 
     def port_of(self, value: str) -> int:
-        """The port of a value that is an address."""
+        """The port of the address that is this one of the fleet's values."""
         return int(self.values[value].rpartition(":")[2])
 
     def service(self, node: str, name: str, words: list[str], env: Env = None) -> Service:
-        """A program at a node, with a log of this name."""
+        """A program at a node, not yet started, with a log of this name."""
         return Service(self.ground, node, words, self.folder / f"{name}.log", env)
 
     def edge(self, node: str, port: int, host: str) -> Proxy:
@@ -267,17 +267,17 @@ class Fleet:
             service.kill()
 
     def is_ready(self, seconds: float) -> bool:
-        """Whether all hosts are up, within so many seconds."""
+        """Waits until the front has found all hosts up, for so many seconds at most. Returns whether it has."""
         return wait_until(lambda: all(map(self.front.is_up, HOSTS)), seconds)
 
     def stream_to(self, node: str, address: str, port: int, source: str = "") -> socket.socket:
-        """A connection from a node to an address."""
+        """A connection from a node to an address, from the address `source` if there is one."""
         with self.ground.within(node):
             return socket.create_connection((address, port), PATIENCE, (source, 0) if source else None)
 
     def by_tls(self, stream: socket.socket, name: str | None = NAME, certificate: str = "") -> Peer:
-        """Starts TLS on a connection, with a client's certificate of the fleet if one is named. Sends `name`, and
-        checks it if it is the usual one."""
+        """Starts TLS on a connection, with this file of the fleet as the client's certificate, if any. Sends `name`,
+        and checks it if it is the usual one."""
         context = ssl.create_default_context(cafile=self.authority)
         context.check_hostname = name == NAME
         if certificate:
@@ -303,7 +303,8 @@ class Fleet:
         return None
 
     def is_taken(self, name: str, seat: int) -> bool:
-        """Whether a seat of a host is taken. If not, it is for a moment, until the host has seen that this one is over."""
+        """Whether a seat of a host is taken. If not, it is for a moment, until the host has seen that this one is
+        over."""
         with self.at_host(name) as one, suppress(*OVER):
             return one.ask(SEAT % seat) == TAKEN
         return False

@@ -31,7 +31,7 @@ from .commands import SAVE, Commands
 
 
 def texts(lines: Iterable[bytes]) -> list[str]:
-    """Lines as texts of JSON, which may have any bytes."""
+    """Lines, which may have any bytes, as texts that fit into JSON: a letter for each byte (latin-1)."""
     return [line.decode("latin-1") for line in lines]
 
 
@@ -50,7 +50,7 @@ class Played:
 
 
 def read(path: Path) -> Played:
-    """Reads a record, if it is there. Its last row may be torn."""
+    """Reads a record. If there is none, it is empty. A last row without its LF is left out."""
     played = Played()
     for row in map(json.loads, path.read_bytes().split(b"\n")[:-1] if path.exists() else []):
         if "ask" in row:
@@ -93,7 +93,7 @@ class Player:
         return asked[kept:]
 
     def ask(self, machine: cam6.Machine, session: Session, sent: list[bytes]) -> list[bytes]:
-        """Sends lines, and returns their replies. Writes both to the record."""
+        """Sends lines at once, and returns their replies. Writes lines to the record first, and replies at the end."""
         self.write(ask=texts(sent))
         seats, again, begun = session.recoveries, session.replayed, time.monotonic()
         replies = machine._query(sent)
@@ -102,7 +102,7 @@ class Player:
         return replies
 
     def play(self) -> None:
-        """Plays until there is a file that says that it is over, and then saves."""
+        """Plays until the file `over` is there, saves, and writes the end to the record."""
         is_new, before = not Path(self.record).exists(), read(Path(self.record))
         # A process that goes on has other commands.
         commands, pauses = Commands(self.seed * 1_000_000 + len(before.lines), self.is_small), random.Random(self.seed)
