@@ -34,7 +34,7 @@ class Unclear(Exception):
 
 
 def json_of(line: bytes) -> Any:
-    """The JSON value of a line. Numbers that no line may have are floats. Raises ValueError if there is none."""
+    """The JSON value of a line. Numbers that no line may have are floats. Raises ValueError if none, or Unclear."""
     text = line.decode()
     marks = [mark for mark in re.findall(r'"(?:[^"\\]|\\.)*"?|[][{}]', text, re.DOTALL) if mark in "[]{}"]
     if max(accumulate(1 if mark in "[{" else -1 for mark in marks), default=0) > MOST_NESTED:
@@ -50,7 +50,7 @@ def members(pairs: list[tuple[str, Any]]) -> dict[str, Any]:
 
 
 def number(text: str) -> int | float:
-    """An int if the text is 0 to 2**64 - 1 in digits alone, else a float. Raises NoJson for one too large."""
+    """An int if the text is 0 to 2**64 - 1 in digits alone, else a float. Raises NoJson if it is none or too large."""
     found = re.fullmatch(r"(-?)([0-9]+)(?:\.([0-9]+))?(?:[eE]([+-]?[0-9]+))?", text)
     if not found:
         raise NoJson
@@ -63,7 +63,7 @@ def number(text: str) -> int | float:
 
 
 def is_too_large(digits: str, whole: int, exponent: str) -> bool:
-    """Whether digits, `whole` of them before the point, are too large for a float with this exponent."""
+    """Whether digits with this exponent, `whole` before the point, are too large for a float. May raise Unclear."""
     first, power = digits.lstrip("0"), exponent.lstrip("+-").lstrip("0") or "0"
     if not first or len(power) > 9:
         return bool(first) and not exponent.startswith("-")
@@ -192,7 +192,7 @@ def is_event(value: Any) -> bool:
 
 
 def is_spelled(line: bytes, command: dict[str, Any]) -> bool:
-    """Whether a line has the spelling that it needs. Only a command that loads a machine needs one: that of `plain`."""
+    """Whether a line has the spelling that it needs. Only a load needs one: `plain`, in lower case."""
     if command.get("do") != "load":
         return True
     digits = str(command["machine"]["planes"])

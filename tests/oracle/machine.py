@@ -172,11 +172,11 @@ class Machine:
         return {"position": self.position}
 
     def do_run(self, n: int) -> Answer:
-        """Does steps by the entries from the position on."""
+        """Does n steps by the entries from the position on, or has the fault of `why_not`."""
         return self.why_not(n) or self.put_off("after", n)
 
     def do_back(self, n: int) -> Answer:
-        """Undoes steps by the entries before the position. Fault 64 with the cause if a rule can't be undone."""
+        """Undoes steps by the entries before the position. Faults of `why_not`, or 64 if a rule has no inverse."""
         if fault := self.why_not(n):
             return fault
         for i, half, name in self.uses():

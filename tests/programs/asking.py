@@ -68,7 +68,7 @@ def change(draw: st.DrawFn, machine: Command) -> None:
 
 @st.composite
 def changed(draw: st.DrawFn, machine: Command) -> Command:
-    """A saved machine with a few things otherwise, which may not be one that was saved; or as the first version saves it."""
+    """A copy of a saved machine, seldom as of the first version, with up to three changes. It may be invalid."""
     machine = first_version(machine) if draw(st.integers(0, 4)) == 0 else deepcopy(machine)
     for _ in range(draw(st.integers(0, 3))):
         change(draw, machine)
@@ -98,11 +98,11 @@ class Asking(RuleBasedStateMachine):
         raise NotImplementedError
 
     def answer(self, line: bytes) -> bytes | None:
-        """What has to come back for a line, or None if it isn't sent."""
+        """The oracle's reply to a line, which has to come back, or None if the line isn't to be sent."""
         return self.oracle.answer(line)
 
     def send_line(self, line: bytes) -> None:
-        """Sends a line, and compares its reply with the oracle's. A line that takes exact arithmetic isn't sent."""
+        """Sends a line, and compares its reply with the oracle's. Sends nothing if that is `Unclear` or None."""
         try:
             wanted = self.answer(line)
         except Unclear:

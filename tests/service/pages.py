@@ -167,7 +167,7 @@ class Socket(Peer):
         super().send(frame_of(Opcode.TEXT, data.encode()) if isinstance(data, str) else data)
 
     def try_to_send(self, data: bytes) -> None:
-        """Sends bytes as they are. If that fails, or nothing is taken for the time of the patience, drops the rest."""
+        """Sends bytes as they are. If the connection fails, or that takes longer than its patience, drops the rest."""
         with suppress(OSError):
             self.send(data)
 

@@ -85,7 +85,7 @@ def closed(peers: Sequence[Peer], within: float) -> int:
 
 
 def fill(peer: Peer) -> None:
-    """Asks for planes without reading any, until nothing is taken for a second. Sets that timeout."""
+    """Asks for planes without reading any, until a send fails or takes a second. Leaves that timeout."""
     peer.socket.settimeout(1)
     with suppress(OSError):
         while True:

@@ -143,7 +143,7 @@ class Service:
         self.processes.append(self.process)
 
     def kill(self) -> None:
-        """Ends the program by SIGKILL, which it can't handle, and waits for that. So are those that ran before."""
+        """Ends the program, and those that ran before, by SIGKILL, and waits until they have ended."""
         for process in self.processes:
             process.kill()
             process.wait()
