@@ -87,7 +87,8 @@ export function reasonOf(answer, { rules, entries, colours }) {
 }
 
 /**
- * The two blocks that become one, and the one that they become, as pictures.
+ * An element with pictures of the two blocks that become one, and of the one that they become if `meeting` is there.
+ * `table` has the pixel of each state, as `lights` makes it.
  * @param {Block[]} blocks
  * @param {Block|undefined} meeting
  * @param {Uint32Array} table

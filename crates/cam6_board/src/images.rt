@@ -61,7 +61,7 @@ impl Image {
         }
     }
 
-    /// Whether the image is at rest.
+    /// Whether the image is at rest, and not in the middle of a step.
     pub fn is_rest(&self) -> bool
         ensures { result ≡ is_rest self.now }
     {

@@ -31,7 +31,8 @@ impl FillPermit {
         }
     }
 
-    /// Takes the permit, unless another seat has it. Returns whether this seat has taken it.
+    /// Takes the permit, and returns true. Returns false, and changes nothing, if a seat has it
+    /// already, even this one.
     pub fn try_take(&self) -> bool {
         self.taken.fetch_or(1, Ordering::SeqCst) == 0
     }

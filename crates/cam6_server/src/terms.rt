@@ -57,9 +57,9 @@ impl<'a, R: Handle> Terms<'a, R> {
         self.standing.set(Standing::Seated);
     }
 
-    /// Sets how long the next read of the stream may wait: what is left of ten seconds, or the idle
-    /// time of a seated client. Fails if the ten seconds are over, if 8 other waiting clients hold
-    /// a long first line, or if it can't be set.
+    /// Sets how long the next read of the stream may wait: the idle time of a seated client, and
+    /// else what is left of its ten seconds. Fails if these are over, or if the wait can't be set.
+    /// Fails too if this client's first line has become long, while 8 other clients hold one.
     pub fn allow(&self, stream: &TcpStream) -> io::Result<()> {
         if self.standing.get() == Standing::Seated {
             return self.allow_seated(stream);

@@ -23,9 +23,10 @@ const DUG: usize = 5;
 /// No word reads more values than this.
 const READ: usize = 3;
 
-/// Decides how a flow goes on after it stopped. `ran` is how its run ended. After `NotInAllLanes`,
-/// settles the flow. Otherwise it takes along the lanes that are next in the queue, or waits while
-/// they go on. Returns whether there is a flow that can go on.
+/// Decides how a flow goes on after its run ended as `ran`. After `NotInAllLanes` it is settled with
+/// the same lanes. Otherwise it takes along the lanes that are next in the queue, or waits and becomes
+/// the flow of those. Returns false if settling changes nothing, which leaves the lanes where they
+/// are, or if the queue is empty.
 pub fn go_on(
     code: &Instructions,
     ran: Result<(), NotInAllLanes>,

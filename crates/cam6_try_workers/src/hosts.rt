@@ -259,7 +259,7 @@ fn people_at(
     Ok((users, workers))
 }
 
-/// Makes a worker for each seat, which holds nothing. None has a thread yet.
+/// Makes a worker without a thread for each seat. The seats must hold nothing.
 fn workers_at(alloc: Global, seats: Vec<BoardSeat>) -> Result<Vec<Worker>, AllocError>
     requires { AreIdle seats.items }
 {

@@ -38,8 +38,9 @@ impl User {
     }
 
     /// Starts a thread that asks a line's command at the user's desk. Returns false, and starts
-    /// none, if a thread has the desk, or if the line is no command. Fails if memory runs out, and
-    /// then the desk may be lost.
+    /// none, if the line can't be read as a command, even for lack of memory, or if the desk isn't
+    /// here. Fails if memory runs out later, or if the thread can't be started, and then the desk
+    /// may be lost.
     pub fn start<R: Handle + Send + Sync + 'static>(
         &mut self,
         rt: R,

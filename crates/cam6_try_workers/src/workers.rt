@@ -79,7 +79,7 @@ impl Worker {
 
     /// Starts a thread that serves at the worker's seat, with a board that fails at this call, or
     /// never for `None`. Loads, bands and unloads are counted together, from 1. Returns false, and
-    /// starts none, if the worker has a thread that isn't joined. Fails if memory runs out, and
+    /// starts none, if the worker's seat isn't here. Fails if memory runs out, and
     /// then the seat may be lost.
     pub fn serve<R: Handle + Send + Sync + 'static>(
         &mut self,

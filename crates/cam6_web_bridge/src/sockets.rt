@@ -176,8 +176,8 @@ fn meaning_of_error(error: &Error) -> Result<PageInput, Unheard>
     }
 }
 
-/// Returns what a stream's error of this kind means: `Nothing` for `WouldBlock` and `TimedOut`.
-/// `HostUnreachable` is the error `HostGone`, and any other kind is `Lost`.
+/// Returns what a stream's error of this kind means: `Nothing` for `WouldBlock` and `TimedOut`. Any
+/// other kind is an error: `HostGone` for `HostUnreachable`, and else `Lost`.
 fn meaning_of_kind(kind: ErrorKind) -> Result<PageInput, Unheard>
     ensures { result ≡ what_a_kind_means kind }
 {

@@ -200,7 +200,7 @@ class Journal:
             self._close()
 
     def _close(self) -> None:
-        """Closes the file without writing it to the disk."""
+        """Closes the file, if there is one, without syncing it to the disk."""
         if self._file:
             self._file.close()
             self._file = None

@@ -466,7 +466,7 @@ def _wiring_of(parameters: List[str], hood: Optional[str], minor: Optional[str])
 
 def _name_in_wiring(name: str, hood: str, minor: str) -> Optional[str]:
     """Returns the name itself if the neighbourhood has it, else its `&` name if the minor assignment has that, else
-    None."""
+    None. The `&` name of `OTHER` is `&CENTER`."""
     if name in HOODS[hood]:
         return name
     other = "&" + name.replace("OTHER", "CENTER") if name != "CENTER" and name != "CENTER'" else name

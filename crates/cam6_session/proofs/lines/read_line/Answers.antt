@@ -35,7 +35,7 @@ returns-in-Newline-clause-bytes g c =
 pub returns-in-AtEnd-clause-line : goal.returns-in-AtEnd-clause-line
 returns-in-AtEnd-clause-line g c =
     parts.reads_to c.args.extent _ _ _ _
-    (rw c.last.ensures
+    (rw c.at_end_of_input.ensures
     (parts.input_is_ended _ _ _ _ _ c.loop-reads_left.invariant.read c.in-AtEnd.ensures))
 
 pub returns-in-Fault-clause-line : goal.returns-in-Fault-clause-line
