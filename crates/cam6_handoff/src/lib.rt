@@ -17,9 +17,9 @@
 //! function of `steps`. The first take of a slot is one load. Only `Desk::ask` and `Desk::wait` try
 //! a step again.
 //!
-//! In the field's words, boards take and desks collect by one compare-and-swap on the user's word.
-//! Whoever succeeds has the slot, and gives it on by one swap (Herlihy, "Wait-Free Synchronization",
-//! ACM Transactions on Programming Languages and Systems 13(1), 1991).
+//! Boards take and desks collect by one compare-and-exchange on the user's word, in the field's words
+//! a compare-and-swap. Whoever succeeds has the slot, and gives it on by one swap (Herlihy,
+//! "Wait-Free Synchronization", ACM Transactions on Programming Languages and Systems 13(1), 1991).
 //!
 //! So, with two desks and two boards: desk 1 puts a run of one step and waits. Board 0 takes it,
 //! and board 1 finds nothing of user 1. After three bands board 0 puts it back. Board 1 takes it,

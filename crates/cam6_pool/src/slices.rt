@@ -1,4 +1,4 @@
-//! The gate of a host: commands on a board make way for each other, and idle boards sleep.
+//! The gate of a host: commands on a board give way to each other, and idle boards sleep.
 
 use crate::gates::{Gate, Turn};
 use cam6_handoff::Queue;

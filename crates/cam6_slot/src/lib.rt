@@ -6,8 +6,8 @@
 //! finished is that machine after that command, with its reply (`IsDone` of `specs/Finished.antt`).
 //! No call knows which they are. A lease's job fits it (`JobFits` of `specs/Leases.antt`), and a
 //! call needs no more to be safe. `left` is the number of bands that are still to be done
-//! (`specs/Lefts.antt`). It falls by one with each band, and never otherwise. Only `ask` allocates.
-//! If that fails, it returns the machine.
+//! (`specs/Lefts.antt`). It falls by one with each band, and never otherwise. Only `ask` and `now`
+//! allocate. If that fails, the machine is as it was, and `ask` returns it.
 //!
 //! So, for a run of two steps at side 256: after the ask it has 32 bands left. After a lease, 19
 //! bands and a preempt it has 13 left: 16 of step 1 and 3 of step 2 are done. Step 2 is parked, and

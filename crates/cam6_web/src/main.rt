@@ -1,7 +1,7 @@
 //! The program `cam6_web`: the page of a machine, for browsers on this machine, and a socket for each
 //! page.
 //!
-//! Contract: `closed` ends with the exit statuses of `cam6_web_cli`, which says what the arguments
+//! Contract: `report_fault` ends with the exit statuses of `cam6_web_cli`, which says what the arguments
 //! ask for, and `refuse` of `cam6_arguments` ends for arguments that ask for nothing. `cam6_web_router`
 //! says what each request is answered, and `cam6_web_bridge` what is carried between a page and its
 //! host. The host is a machine in this process (`cam6_web_machine`) or is at the other end of a

@@ -16,8 +16,8 @@
 //!
 //! Stands on: `cam6_writing`, `tungstenite`, `websocket` and `bytes`.
 //!
-//! Read next: `hosts` and `host_lines`; `pages` and `sockets`; `carrying`, the bridge;
-//! `partings`, how the page is told of its end; `bridging`, all of it; and `laws`.
+//! Read next: `hosts` and `host_lines`; `pages` and `sockets`; `carrying`, the loop of a bridge;
+//! `partings`, how a page's socket is closed; `bridging`, a whole bridge; and `laws`.
 #![tactic(auto)]
 
 mod bridging;
