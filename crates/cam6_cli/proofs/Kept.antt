@@ -20,7 +20,7 @@ use Rattle.clap.specs.Kinds.{Kinds, or_else}
 use Rattle.clap.specs.Faults.{bundle_fault, bundle_step_fault, flag_word_fault, flags_fault}
 use Rattle.clap.specs.Faults.{level_fault, long_fault, option_fault, other_fault}
 use Rattle.clap.specs.Faults.{positional_fault, react_fault, settle_fault, short_fault, step_fault}
-use Rattle.clap.specs.Faults.{stray_fault, read_bound_fault, use_fault, walk_fault, word_fault}
+use Rattle.clap.specs.Faults.{stray_fault, turn_fault, use_fault, walk_fault, word_fault}
 use Rattle.clap.specs.Simple.{Shape}
 use Rattle.clap.specs.declared.error.kind.ErrorKind.TheVariants.{TooManyValues}
 
@@ -236,7 +236,7 @@ module _ (Fit : List Row → Type 0) (s : Shape) (names : Names)
   walk_fits [] w passes fits = fits
   walk_fits (word ∷ words) w passes fits =
       walk_fits words (walked s.rules names w word)
-      (second_none (read_bound_fault s names w word) _ passes)
+      (second_none (turn_fault s names w word) _ passes)
       (round_fits w.stopped w word (first_none _ _ passes) fits)
 
   pub level_fits : (words : List Text) (has_subcommand : Bool) (below : Kinds)

@@ -10,7 +10,7 @@ use Rattle.clap.specs.Walk.{subcommand_or_other, subcommand_met, word_met, arg_b
 use Rattle.clap.specs.Walk.{to_positional, after_step, walked_from, walked, walk_from, stop_after}
 use Rattle.clap.specs.Walk.{nothing_held}
 use Rattle.clap.specs.Kinds.{Kinds, or_else}
-use Rattle.clap.specs.Faults.{built_fault, other_fault, read_bound_fault, walk_fault, word_fault}
+use Rattle.clap.specs.Faults.{built_fault, other_fault, turn_fault, walk_fault, word_fault}
 use Rattle.clap.specs.Simple.{App, Shape, names_of}
 use Rattle.cam6_cli.proofs.Kept.{first_none, second_none}
 
@@ -90,13 +90,13 @@ module _ (s : Shape) (on : s.disable_help_subcommand ≡ false) (names : Names) 
   stops_elsewhere word w h value so_far meets =
       to_none (arg_by_index s.rules w.position) word w h so_far
 
-  reads_elsewhere : (stopped : Option (Text × List Text)) (w : Walk) (word : Text) (more : Kinds)
+  round_elsewhere : (stopped : Option (Text × List Text)) (w : Walk) (word : Text) (more : Kinds)
       → IsNotHelp w.stopped → IsNotHelp stopped →
       cond (is_some stopped) []
       (or_else (word_fault s names w.is_trailing w.waiting word w.held) more) ≡ [] →
       IsNotHelp (walked_from s.rules names stopped w word).stopped
-  reads_elsewhere (Some p) w word more so_far same passes = same
-  reads_elsewhere None w word more so_far same passes =
+  round_elsewhere (Some p) w word more so_far same passes = same
+  round_elsewhere None w word more so_far same passes =
       stops_elsewhere word w _ _ so_far
       (word_is_other w.is_trailing w.waiting w.position word w.held (first_none _ more passes))
 
@@ -106,8 +106,8 @@ module _ (s : Shape) (on : s.disable_help_subcommand ≡ false) (names : Names) 
   walks_elsewhere [] w so_far passes = so_far
   walks_elsewhere (word ∷ words) w so_far passes =
       walks_elsewhere words (walked s.rules names w word)
-      (reads_elsewhere w.stopped w word _ so_far so_far (first_none _ _ passes))
-      (second_none (read_bound_fault s names w word) _ passes)
+      (round_elsewhere w.stopped w word _ so_far so_far (first_none _ _ passes))
+      (second_none (turn_fault s names w word) _ passes)
 
 -- where clap takes the words, it stops at no help
 pub not_at_help : (a : App) (words : List Text) → a.top.disable_help_subcommand ≡ false →
